@@ -1,0 +1,209 @@
+-- What a server does, on its own value: c is the configuration, k its number, r its clock reading, s its value.
+-- A message comes from party p in interaction q. The answer is its new value, the outcome and what it sends.
+-- Whether it is alive, the time of its last change and the notice times are the facade's to write.
+use mathlib.Core.Bool.{Bool, true, false, not, cond}
+use mathlib.Core.List.{List}
+use Prim.Native.Nat.{ℕ, _+_, _*_, max}
+use lib.Dec.{leb, ltb, eqb}
+use lib.ListN.{getD, set, replicate}
+use Rattle.types.specs.declared.Config.{Config}
+use Rattle.types.specs.declared.Reserved.{Reserved}
+use Rattle.types.specs.declared.Reserved.the-variants.{Free, Taken}
+use Rattle.types.specs.declared.Reservation.{Reservation}
+use Rattle.types.specs.declared.Pending.{Pending}
+use Rattle.types.specs.declared.Pending.the-variants.{Closed, Open}
+use Rattle.types.specs.declared.OpenWrite.{OpenWrite}
+use Rattle.types.specs.declared.Server.{Server}
+use Rattle.types.specs.declared.Body.{Body}
+use Rattle.types.specs.declared.Body.the-variants.{Empty, Discover, Offer, Request, Renew, Write, WriteAck, Ack}
+use Rattle.types.specs.declared.Message.{Message}
+use Rattle.types.specs.declared.Outbox.{Outbox}
+use Rattle.types.specs.declared.ServerAnswer.{ServerAnswer}
+use Rattle.rules.specs.Tests.{_and_, _or_, all, lowest, filled}
+use Rattle.rules.specs.Parts.{leadsAt, reservedAt, lentAt, recordAt, writeAt, withLeading, withReserved, withLease, withRecord, withWrite, message}
+use Rattle.rules.specs.Order.{isFirst}
+use Rattle.rules.specs.Messages.{nothing, post, toOthers}
+
+abbrev pub answer : Server → ℕ → Outbox → ServerAnswer
+answer s n o = record { server = s; outcome = n; outbox = o }
+
+-- what nobody has reserved
+abbrev pub free : Reservation
+free = record { state = Free }
+
+-- no open write
+abbrev pub closed : OpenWrite
+closed = record { pending = Closed; acked = replicate 4 false }
+
+abbrev pub opened : ℕ → ℕ → List Bool → OpenWrite
+opened q v acked = record { pending = Open q v; acked = acked }
+
+-- Notice.
+
+-- how long a server waits after its return before it may begin to lead: 2ν + 2Δ
+abbrev pub leadDelay : Config → ℕ
+leadDelay c = 2 * c .silence + 2 * c .skew
+
+-- what is recorded on beginning to lead: clock + μ + 2Δ
+abbrev pub leadRecord : Config → ℕ → ℕ
+leadRecord c r = r + c .mclt + 2 * c .skew
+
+-- "the server leads it if it is first among its believed live in that address's order
+-- and either led it already or its clock is at least its return reading + 2ν + 2Δ. Else it does not lead."
+unfoldable pub leadsAfter : Config → ℕ → ℕ → Server → List Bool → ℕ → Bool
+leadsAfter c k r s b a = isFirst (c .servers) a k b and (leadsAt s a or leb (s .returned + leadDelay c) r)
+
+-- "On beginning to lead, record := larger of the record and clock + μ + 2Δ, in the same step."
+unfoldable pub recordAfter : Config → ℕ → ℕ → Server → List Bool → ℕ → ℕ
+recordAfter c k r s b a = cond (leadsAfter c k r s b a and not (leadsAt s a)) (max (recordAt s a) (leadRecord c r)) (recordAt s a)
+
+unfoldable pub ledBy : Config → ℕ → ℕ → Server → List Bool → Server
+ledBy c k r s b = withLeading s b (filled (leadsAfter c k r s b) (c .addresses) (s .leads)) (filled (recordAfter c k r s b) (c .addresses) (s .potlease))
+
+-- "the set is updated; then, for each address, .."
+unfoldable pub noticed : Config → ℕ → ℕ → Server → ℕ → ℕ → ServerAnswer
+noticed c k r s about says = answer (ledBy c k r s (set (s .believed) about (eqb says 1))) 0 nothing
+
+-- Return.
+
+-- "Records survive."
+abbrev pub keptRecords : Server → List ℕ
+keptRecords s = s .potlease
+
+-- "its return reading is its clock, .. believed live is all; led, reservations, lent ends and writes are cleared"
+unfoldable pub returned : ℕ → Server → ServerAnswer
+returned r s =
+    answer
+    (record {
+      alive = s .alive;
+      changed = s .changed;
+      returned = r;
+      believed = replicate 4 true;
+      leads = replicate 32 false;
+      reserved = replicate 32 free;
+      lent = replicate 32 0;
+      potlease = keptRecords s;
+      writes = replicate 32 closed;
+    })
+    0 nothing
+
+-- Cleanup.
+
+-- "drops each reservation whose reading + θ < clock"
+unfoldable pub unlessOld : Config → ℕ → Reserved → Reserved
+unlessOld c r Free = Free
+unlessOld c r (Taken q r′) = cond (ltb (r′ + c .hold) r) Free (Taken q r′)
+
+unfoldable pub cleaned : Config → ℕ → Server → ServerAnswer
+cleaned c r s = answer (withReserved s (filled (λ a. record { state = unlessOld c r (reservedAt s a) }) (c .addresses) (s .reserved))) 0 nothing
+
+-- Discover.
+
+-- by how much a record must have passed: 2Δ
+abbrev pub expirySlack : Config → ℕ
+expirySlack c = 2 * c .skew
+
+-- "record + 2Δ < clock"
+unfoldable pub expired : Config → ℕ → Server → ℕ → Bool
+expired c r s a = ltb (recordAt s a + expirySlack c) r
+
+unfoldable pub isFree : Reserved → Bool
+isFree Free = true
+isFree (Taken q r) = false
+
+-- "led, not reserved, and has record + 2Δ < clock"
+unfoldable pub offerable : Config → ℕ → Server → ℕ → Bool
+offerable c r s a = leadsAt s a and isFree (reservedAt s a) and expired c r s a
+
+-- "is reserved for κ and offered. None: outcome 1."
+unfoldable pub offers : Config → ℕ → ℕ → Server → ℕ → ℕ → ℕ → ServerAnswer
+offers c k r s p q a =
+    cond (ltb a (c .addresses))
+    (answer (withReserved s (set (s .reserved) a (record { state = Taken q r }))) 0 (post nothing (message k p q (Offer a))))
+    (answer s 1 nothing)
+
+-- "the lowest-numbered address that .."
+unfoldable pub onDiscover : Config → ℕ → ℕ → Server → ℕ → ℕ → ServerAnswer
+onDiscover c k r s p q = offers c k r s p q (lowest (offerable c r s) 0 (c .addresses))
+
+-- Request.
+
+-- the end that the other servers are asked to record: "v := larger of τ and lent end"
+abbrev pub writtenEnd : ℕ → ℕ → ℕ
+writtenEnd t l = max t l
+
+-- the end in the ack: "the ack with the lent end is sent"
+abbrev pub ackEnd : ℕ → ℕ → ℕ
+ackEnd t l = l
+
+-- address a is lent until l, and t was wanted: "record := larger of record and v; the open write becomes (κ, v, itself only);
+-- the ack with the lent end is sent, then writes (κ, address, v) to every other server"
+unfoldable pub granted : Config → ℕ → Server → ℕ → ℕ → ℕ → ℕ → ℕ → ServerAnswer
+granted c k s p q a t l =
+    answer (withLease s a l (max (recordAt s a) (writtenEnd t l)) (opened q (writtenEnd t l) (set (replicate 4 false) k true)))
+    0
+    (toOthers k (λ j. message k j q (Write a (writtenEnd t l))) (c .servers) (post nothing (message k p q (Ack a (ackEnd t l)))))
+
+unfoldable pub unlessOf : ℕ → Reserved → Reserved
+unlessOf q Free = Free
+unlessOf q (Taken q′ r) = cond (eqb q′ q) Free (Taken q′ r)
+
+-- "reservations of κ are dropped in any case"
+unfoldable pub dropped : Config → ℕ → Server → Server
+dropped c q s = withReserved s (filled (λ a. record { state = unlessOf q (reservedAt s a) }) (c .addresses) (s .reserved))
+
+-- "If led and record + 2Δ < clock"
+unfoldable pub grantable : Config → ℕ → Server → ℕ → Bool
+grantable c r s a = leadsAt s a and expired c r s a
+
+-- "lent end := clock + μ"
+unfoldable pub grants : Config → ℕ → ℕ → Server → ℕ → ℕ → ℕ → ℕ → ServerAnswer
+grants c k r s p q a t = cond (grantable c r s a) (granted c k s p q a t (r + c .mclt)) (answer s 1 nothing)
+
+unfoldable pub onRequest : Config → ℕ → ℕ → Server → ℕ → ℕ → ℕ → ℕ → ServerAnswer
+onRequest c k r s p q a t = grants c k r (dropped c q s) p q a t
+
+-- Renew: "if led and the old end e is at least clock: lent end := larger of clock + μ and lent end; the rest as for a request."
+unfoldable pub onRenew : Config → ℕ → ℕ → Server → ℕ → ℕ → ℕ → ℕ → ℕ → ServerAnswer
+onRenew c k r s p q a e t =
+    cond (leadsAt s a and leb r e) (granted c k s p q a t (max (r + c .mclt) (lentAt s a))) (answer s 1 nothing)
+
+-- Write: "record := larger of record and v; a write ack (κ, address, v) returns to the sender."
+unfoldable pub onWrite : ℕ → Server → ℕ → ℕ → ℕ → ℕ → ServerAnswer
+onWrite k s p q a v = answer (withRecord s a (max (recordAt s a) v)) 0 (post nothing (message k p q (WriteAck a v)))
+
+-- Write ack.
+
+-- "κ and v both equal the open write's"
+unfoldable pub answers : ℕ → ℕ → Pending → Bool
+answers q v Closed = false
+answers q v (Open q′ v′) = eqb q q′ and eqb v v′
+
+-- "when all S servers are in, lent end := larger of it and v, and the write closes"
+unfoldable pub acknowledged : Config → Server → ℕ → ℕ → ℕ → List Bool → Server
+acknowledged c s q a v acked =
+    cond (all (λ j. getD acked j false) (c .servers))
+    (withWrite s a (max (lentAt s a) v) closed)
+    (withWrite s a (lentAt s a) (opened q v acked))
+
+-- "if led and .., the sender is added"
+unfoldable pub onWriteAck : Config → Server → ℕ → ℕ → ℕ → ℕ → ServerAnswer
+onWriteAck c s p q a v =
+    cond (leadsAt s a and answers q v ((writeAt s a) .pending))
+    (answer (acknowledged c s q a v (set ((writeAt s a) .acked) p true)) 0 nothing)
+    (answer s 1 nothing)
+
+-- a message that is for a client has no condition here that is met
+unfoldable pub serverHandles : Config → ℕ → ℕ → Server → ℕ → ℕ → Body → ServerAnswer
+serverHandles c k r s p q Empty = answer s 1 nothing
+serverHandles c k r s p q Discover = onDiscover c k r s p q
+serverHandles c k r s p q (Offer a) = answer s 1 nothing
+serverHandles c k r s p q (Request a t) = onRequest c k r s p q a t
+serverHandles c k r s p q (Renew a e t) = onRenew c k r s p q a e t
+serverHandles c k r s p q (Write a v) = onWrite k s p q a v
+serverHandles c k r s p q (WriteAck a v) = onWriteAck c s p q a v
+serverHandles c k r s p q (Ack a e) = answer s 1 nothing
+
+-- "A dead receiver: outcome 2, nothing handled."
+unfoldable pub serverReceives : Config → ℕ → ℕ → Server → Message → ServerAnswer
+serverReceives c k r s m = cond (s .alive) (serverHandles c k r s (m .sender) (m .interaction) (m .body)) (answer s 2 nothing)
