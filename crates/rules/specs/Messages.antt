@@ -21,27 +21,26 @@ unfoldable pub postUnless : Bool → Outbox → Message → Outbox
 postUnless true o m = o
 postUnless false o m = post o m
 
--- "Broadcasts go in server order": after what o holds, message m j to each server j below n
-unfoldable pub toEach : (ℕ → Message) → ℕ → Outbox → Outbox
-toEach m zero o = o
-toEach m (suc n) o = post (toEach m n o) (m n)
+-- "Broadcasts go in server order": after what o holds, message m j goes to each server j below n but those left out
+unfoldable pub toServers : (ℕ → Bool) → (ℕ → Message) → ℕ → Outbox → Outbox
+toServers leftOut m zero o = o
+toServers leftOut m (suc n) o = postUnless (leftOut n) (toServers leftOut m n o) (m n)
 
--- and to each but server k
-unfoldable pub toOthers : ℕ → (ℕ → Message) → ℕ → Outbox → Outbox
-toOthers k m zero o = o
-toOthers k m (suc n) o = postUnless (eqb n k) (toOthers k m n o) (m n)
+abbrev pub toEach : (ℕ → Message) → ℕ → Outbox → Outbox
+toEach m n o = toServers (λ j. false) m n o
 
--- a message sent waits behind the others
-abbrev pub send : Facade → Message → Facade
-send f m = withMessages f (set (f .messages) (f .waiting) m) (f .waiting + 1)
+-- to every server other than k
+abbrev pub toOthers : ℕ → (ℕ → Message) → ℕ → Outbox → Outbox
+toOthers k m n o = toServers (λ j. eqb j k) m n o
 
--- the first n messages of an outbox are sent, in order
-unfoldable pub sendFirst : ℕ → Outbox → Facade → Facade
-sendFirst zero o f = f
-sendFirst (suc n) o f = send (sendFirst n o f) (getD (o .messages) n noMessage)
+-- the messages with the first n of an outbox put behind the w that wait, in order
+unfoldable pub sentBehind : List Message → ℕ → Outbox → ℕ → List Message
+sentBehind ms w o zero = ms
+sentBehind ms w o (suc n) = set (sentBehind ms w o n) (w + n) (getD (o .messages) n noMessage)
 
+-- what is sent waits behind the others
 abbrev pub sendAll : Facade → Outbox → Facade
-sendAll f o = sendFirst (o .count) o f
+sendAll f o = withMessages f (sentBehind (f .messages) (f .waiting) o (o .count)) (f .waiting + o .count)
 
 -- of n waiting messages that at position p is taken out: those behind it move up by one, and the last place is emptied
 unfoldable pub removed : List Message → ℕ → ℕ → List Message

@@ -1,0 +1,5 @@
+-- The theorems over the definitions of specs/: first `Safety`, which is demand 3.
+pub mod Laws
+pub mod Clocks
+pub mod Cable
+pub mod Kept
