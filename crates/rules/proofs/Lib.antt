@@ -3,3 +3,4 @@ pub mod Laws
 pub mod Clocks
 pub mod Cable
 pub mod Kept
+pub mod Leadership
