@@ -17,17 +17,19 @@ use Rattle.rules.specs.Parts.{noMessage, messageAt}
 use Rattle.rules.specs.Messages.{nothing, post, postUnless, toServers, toEach, toOthers, sentBehind, sendAll, removed, without}
 use Rattle.rules.proofs.Laws.{Or, inl, inr, not-eqb}
 
--- message m waits
-pub record Waits (f : Facade) (m : Message) : Type 0 where
+-- message m is among the first n
+pub record Among (ms : List Message) (n : ℕ) (m : Message) : Type 0 where
   pub at : ℕ
-  pub below : at < f .waiting
-  pub is : messageAt f at ≡ m
+  pub below : at < n
+  pub is : getD ms at noMessage ≡ m
+
+-- message m waits
+abbrev pub Waits : Facade → Message → Type 0
+Waits f m = Among (f .messages) (f .waiting) m
 
 -- message m is sent with outbox o
-pub record Posted (o : Outbox) (m : Message) : Type 0 where
-  pub at : ℕ
-  pub below : at < o .count
-  pub is : getD (o .messages) at noMessage ≡ m
+abbrev pub Posted : Outbox → Message → Type 0
+Posted o m = Among (o .messages) (o .count) m
 
 -- Sending.
 

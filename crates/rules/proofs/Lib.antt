@@ -4,3 +4,5 @@ pub mod Clocks
 pub mod Cable
 pub mod Kept
 pub mod Leadership
+pub mod Leases
+pub mod Granting
