@@ -6,3 +6,5 @@ pub mod Kept
 pub mod Leadership
 pub mod Leases
 pub mod Granting
+pub mod Holding
+pub mod Serving
