@@ -224,5 +224,5 @@ module _ (f : Facade) (g : Ranged f) (v : Leased (world f)) where
     keeps-body from to q (WriteAck a e) is cl = unmoved
     keeps-body from to q (Ack a e) is cl = keeps-ack q a e (cl i a e (is, refl, refl))
 
-    pub keeps-receive : (m : Message) → Waits f m → m .receiver ≡ party (f .config) i → Keeps (clientReceives (clock f (party (f .config) i)) (stateAt f i) m)
-    keeps-receive m y is = keeps-body (m .sender) (m .receiver) (m .interaction) (m .body) is (λ i′ a e c. sent m y c)
+    pub keeps-receive : (m : Message) → Waits f m → m .receiver ≡ party (f .config) i → Keeps (clientReceives (clock f (m .receiver)) (stateAt f i) m)
+    keeps-receive m y is = rw is (keeps-body (m .sender) (m .receiver) (m .interaction) (m .body) is (λ i′ a e c. sent m y c))

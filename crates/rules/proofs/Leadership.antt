@@ -13,15 +13,21 @@ use lib.Seq.{getD-set-same, getD-set-other}
 use lib.IntN.{ℤ, pos, natAbs, _+ℤ_}
 use Rattle.types.specs.declared.Config.{Config}
 use Rattle.types.specs.declared.Server.{Server}
+use Rattle.types.specs.declared.Body.{Body}
+use Rattle.types.specs.declared.Body.the-variants.{Empty, Discover, Offer, Request, Renew, Write, WriteAck, Ack}
+use Rattle.types.specs.declared.Message.{Message}
 use Rattle.types.specs.declared.Facade.{Facade}
+use Rattle.types.specs.declared.Answer.{Answer}
+use Rattle.types.specs.declared.ServerAnswer.{ServerAnswer}
 use Rattle.rules.specs.Tests.{_and_, _or_, all, filled}
 use Rattle.rules.specs.Clock.{plus, notNegative}
-use Rattle.rules.specs.Parts.{noServer, believes, leadsAt, serverAt, offsetAt, clock, noticeAt, parties, withLife}
-use Rattle.rules.specs.Ranges.{offsetInRange}
+use Rattle.rules.specs.Parts.{noServer, believes, leadsAt, serverAt, messageAt, offsetAt, clock, noticeAt, parties, writeAt, withLife, withMessages}
+use Rattle.rules.specs.Ranges.{offsetInRange, isServer}
+use Rattle.rules.specs.Messages.{without}
 use Rattle.rules.specs.Order.{rank, isFirst}
-use Rattle.rules.specs.Server.{leadDelay, leadsAfter, ledBy, noticed, returned}
-use Rattle.rules.specs.Steps.{Action, pass, fail, return, notice, fresh, freshServer, exists, stateAllows, ofPass, clockAllows, inTouch, ofNotice, isTimely, rowNow, lapse, effect}
-use Rattle.rules.proofs.Laws.{and-l, and-r, or-elim, clash, not-eqb, all-at, set-case, set-any, rep-ind, rep-true, rep-false, length-filled, filled-at}
+use Rattle.rules.specs.Server.{leadDelay, leadsAfter, ledBy, noticed, returned, cleaned, offers, onDiscover, granted, dropped, grantable, grants, onRequest, onRenew, onWrite, answers, acknowledged, onWriteAck, serverHandles, serverReceives}
+use Rattle.rules.specs.Steps.{Action, pass, fail, return, notice, discover, request, renew, deliver, lose, cleanup, unknown, fresh, freshServer, exists, ofPass, clockAllows, inTouch, ofNotice, isTimely, rowNow, lapse, taken, handled, effect}
+use Rattle.rules.proofs.Laws.{and-l, and-r, or-elim, clash, not-eqb, cond-case, all-at, set-case, set-any, rep-ind, rep-true, rep-false, length-filled, filled-at}
 use Rattle.rules.proofs.Clocks.{plus-low, plus-high, plus-later, plus-mono}
 use Rattle.rules.proofs.Kept.{Configured, configured, Ranged, Kept}
 
@@ -131,6 +137,29 @@ module _ (order : ℕ → ℕ → ℕ) (f : Facade) (o : Orders (f .config) orde
 
   pub one-leader : OneLeader f
   one-leader j k a hj hk ha aj ak lj lk = one-go j k a hj hk ha aj ak lj lk (decLt _ _) (decLt _ _)
+
+-- What a server does with a message leaves this part of it.
+
+module _ (c : Config) (k r : ℕ) (s : Server) where
+  abbrev SameCore : ServerAnswer → Type 0
+  SameCore x = coreOf (x .server) ≡ coreOf s
+
+  core-body : (p q : ℕ) (b : Body) → SameCore (serverHandles c k r s p q b)
+  unfolding serverHandles onDiscover offers onRequest grants dropped granted onRenew onWrite onWriteAck acknowledged
+  core-body p q Empty = refl
+  core-body p q Discover = cond-case SameCore (ltb _ (c .addresses)) _ _ (λ _. refl) (λ _. refl)
+  core-body p q (Offer a) = refl
+  core-body p q (Request a t) = cond-case SameCore (grantable c r (dropped c q s) a) _ _ (λ _. refl) (λ _. refl)
+  core-body p q (Renew a e t) = cond-case SameCore (leadsAt s a and leb r e) _ _ (λ _. refl) (λ _. refl)
+  core-body p q (Write a v) = refl
+  core-body p q (WriteAck a v) = cond-case SameCore (leadsAt s a and answers q v ((writeAt s a) .pending)) _ _
+      (λ _. cond-case (λ x. coreOf x ≡ coreOf s) (all _ (c .servers)) _ _ (λ _. refl) (λ _. refl))
+      (λ _. refl)
+  core-body p q (Ack a e) = refl
+
+  pub core-received : (m : Message) → SameCore (serverReceives c k r s m)
+  unfolding serverReceives
+  core-received m = cond-case SameCore (s .alive) _ _ (λ _. core-body (m .sender) (m .interaction) (m .body)) (λ _. refl)
 
 -- Each step keeps it.
 
@@ -368,6 +397,29 @@ module _ (order : ℕ → ℕ → ℕ) (f : Facade) (g : Ranged f) (v : Led orde
         l3 = λ j a hj ha al le. omega (arith, v .l3 j a hj ha al le, pass-clock j);
         l4 = v .l4;
         l5 = v .l5 }
+
+  -- a delivery: what a server does with a message leaves the part that leading is about
+  led-handled : (ms : List Message) (n : ℕ) (m : Message) → Led order ((handled (withMessages f ms n) m) .facade)
+  unfolding handled
+  led-handled ms n m = cond-case (λ (y : Answer). Led order (y .facade)) (isServer (f .config) (m .receiver)) _ _
+      (λ t. same-core (m .receiver) _ (ltb→lt (m .receiver) _ t) (core-received (f .config) (m .receiver) (clock f (m .receiver)) (serverAt f (m .receiver)) m))
+      (λ _. v)
+
+  -- a step that is not refused
+  pub led-kept : Orders (f .config) order → (x : Action) → Kept f x → Led order ((effect f x) .facade)
+  unfolding effect
+  led-kept o (pass d p e) w = led-pass d p e w
+  led-kept o (fail k) w = led-fail k w
+  led-kept o (return k) w = led-return k w
+  led-kept o (notice k j says) w = led-notice o k j says w
+  led-kept o (discover i) w = v
+  led-kept o (request i t) w = v
+  led-kept o (renew i t) w = v
+  led-kept o (deliver p keep) w = unfold taken in cond-case (λ h. Led order ((handled h (messageAt f p)) .facade)) (eqb keep 0) (without f p) f
+      (λ _. led-handled _ _ (messageAt f p)) (λ _. led-handled (f .messages) (f .waiting) (messageAt f p))
+  led-kept o (lose p) w = v
+  led-kept o (cleanup k) w = unfold exists cleaned in same-core k _ (ltb→lt k _ (w .names)) refl
+  led-kept o unknown w = v
 
 -- a fresh facade
 pub led-fresh : (order : ℕ → ℕ → ℕ) (c : Config) → Configured c → Led order (fresh c)

@@ -8,3 +8,4 @@ pub mod Leases
 pub mod Granting
 pub mod Holding
 pub mod Serving
+pub mod Delivery
