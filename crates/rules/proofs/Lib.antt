@@ -9,3 +9,6 @@ pub mod Granting
 pub mod Holding
 pub mod Serving
 pub mod Delivery
+pub mod Ranges
+pub mod Invariant
+pub mod Safety
