@@ -14,11 +14,11 @@ use Rattle.types.specs.declared.Message.{Message}
 use Rattle.types.specs.declared.Outbox.{Outbox}
 use Rattle.types.specs.declared.Facade.{Facade}
 use Rattle.types.specs.declared.Answer.{Answer}
-use Rattle.rules.specs.Tests.{_and_}
-use Rattle.rules.specs.Parts.{serverAt, stateAt, messageAt, clock, party, parties, withMessages}
+use Rattle.rules.specs.Conditions.{_and_}
+use Rattle.rules.specs.Parts.{serverAt, stateAt, messageAt, clock, clientParty, parties, withMessages}
 use Rattle.rules.specs.Ranges.{isServer, isClient, bodyInRange, messageInRange}
 use Rattle.rules.specs.Messages.{sendAll, without}
-use Rattle.rules.specs.Steps.{Action, pass, fail, return, notice, discover, request, renew, deliver, lose, cleanup, unknown, exists, taken, handled, effect}
+use Rattle.rules.specs.Steps.{Action, pass, fail, return, notice, discover, request, renew, deliver, lose, cleanup, unknown, exists, takenOut, handled, effect}
 use Rattle.rules.proofs.Laws.{Or, inl, inr, and-l, and-r, clash, cond-case}
 use Rattle.rules.proofs.Cable.{Among, Waits, Posted, waits-sent, length-removed, waits-removed}
 use Rattle.rules.proofs.Kept.{Ranged, Kept}
@@ -56,9 +56,9 @@ module _ (f : Facade) (g : Ranged f) (four : length (f .servers) ≡ 4) (len : l
     leased-handled = cond-case (λ (y : Answer). (y .facade) .waiting ≤ 128 → Leased (world (y .facade))) (isServer (f .config) (m .receiver)) _ _
         (λ t room. Granting.keeps-receive f g four one v (m .receiver) (ltb→lt (m .receiver) _ t) _ m waits (was _ room))
         (λ t room.
-          let is : m .receiver ≡ party (f .config) (m .receiver - f .config .servers) = omega (arith, nltb→le (m .receiver) (f .config .servers) t) in
-          let in-range : m .receiver < parties (f .config) = for-client (f .config) (m .sender) (m .receiver) (m .body) (and-r _ _ (g .message m waits)) t in
-          Holding.keeps-receive f g v (m .receiver - f .config .servers) (omega arith) _ m waits is (was _ room))
+        let is : m .receiver ≡ clientParty (f .config) (m .receiver - f .config .servers) = omega (arith, nltb→le (m .receiver) (f .config .servers) t) in
+        let in-range : m .receiver < parties (f .config) = for-client (f .config) (m .sender) (m .receiver) (m .body) (and-r _ _ (g .message m waits)) t in
+        Holding.keeps-receive f g v (m .receiver - f .config .servers) (omega arith) _ m waits is (was _ room))
 
   -- a message lost
   fewer : (p : ℕ) → p < f .waiting → (m : Message) → Waits (without f p) m → Waits f m
@@ -71,13 +71,13 @@ module _ (f : Facade) (g : Ranged f) (four : length (f .servers) ≡ 4) (len : l
       old i a e (holds q hi x) = holds q hi x
       old i a e (sent m x c) = sent m (fewer p h m x) c
 
-  leased-deliver : (p keep : ℕ) → p < f .waiting → ((handled (taken f p keep) (messageAt f p)) .facade) .waiting ≤ 128 → Leased (world ((handled (taken f p keep) (messageAt f p)) .facade))
-  unfolding taken
+  leased-deliver : (p keep : ℕ) → p < f .waiting → ((handled (takenOut f p keep) (messageAt f p)) .facade) .waiting ≤ 128 → Leased (world ((handled (takenOut f p keep) (messageAt f p)) .facade))
+  unfolding takenOut
   leased-deliver p keep h =
       let here : Waits f (messageAt f p) = record { at = p; below = h; is = refl } in
       cond-case (λ k. ((handled k (messageAt f p)) .facade) .waiting ≤ 128 → Leased (world ((handled k (messageAt f p)) .facade))) (eqb keep 0) (without f p) f
-        (λ _. leased-handled _ (f .waiting - 1) (length-removed (f .messages) p (f .waiting) h (omega (arith, g .waiting)) ∙ len) (fewer p h) (messageAt f p) here)
-        (λ _. leased-handled (f .messages) (f .waiting) len (λ m x. x) (messageAt f p) here)
+      (λ _. leased-handled _ (f .waiting - 1) (length-removed (f .messages) p (f .waiting) h (omega (arith, g .waiting)) ∙ len) (fewer p h) (messageAt f p) here)
+      (λ _. leased-handled (f .messages) (f .waiting) len (λ m x. x) (messageAt f p) here)
 
   pub leased-kept : ((k : ℕ) → k < f .config .servers → length ((serverAt f k) .leads) ≡ 32) → (x : Action) → Kept f x → Leased (world ((effect f x) .facade))
   unfolding effect exists

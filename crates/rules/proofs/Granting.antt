@@ -21,11 +21,11 @@ use Rattle.types.specs.declared.Message.{Message}
 use Rattle.types.specs.declared.Facade.{Facade}
 use Rattle.types.specs.declared.Outbox.{Outbox}
 use Rattle.types.specs.declared.ServerAnswer.{ServerAnswer}
-use Rattle.rules.specs.Tests.{_and_, all}
-use Rattle.rules.specs.Parts.{noServer, noWrite, serverAt, clock, party, message, leadsAt, lentAt, recordAt, writeAt, withReserved, withLease, withRecord, withWrite}
+use Rattle.rules.specs.Conditions.{_and_, all}
+use Rattle.rules.specs.Parts.{noServer, noWrite, serverAt, clock, clientParty, message, leadsAt, lentAt, recordAt, writeAt, withReserved, withLease, withRecord, withWrite}
 use Rattle.rules.specs.Ranges.{isClient, bodyInRange, messageInRange}
 use Rattle.rules.specs.Messages.{nothing, post}
-use Rattle.rules.specs.Server.{answer, closed, opened, expirySlack, expired, offerable, offers, onDiscover, writtenEnd, ackEnd, granted, dropped, grantable, grants, onRequest, onRenew, onWrite, answers, acknowledged, onWriteAck, serverHandles, serverReceives}
+use Rattle.rules.specs.Server.{answer, closed, opened, expirySlack, expired, offerable, offers, onDiscover, writtenEnd, ackEnd, granted, dropped, grantable, grants, onRequest, onRenew, onWrite, matchesWrite, acknowledged, onWriteAck, serverHandles, serverReceives}
 use Rattle.rules.proofs.Laws.{Or, inl, inr, and-l, and-r, cond-case, all-at, set-case, set-any, rep-ind}
 use Rattle.rules.proofs.Cable.{Waits, Posted, ToServer, posted-nothing, posted-one, posted-others}
 use Rattle.rules.proofs.Kept.{Configured, configured, Ranged}
@@ -78,8 +78,8 @@ module _ (f : Facade) (g : Ranged f) (four : length (f .servers) ≡ 4) (one : O
   unfolding onDiscover offers
   keeps-discover p q =
       cond-case Keeps (ltb _ (f .config .addresses)) _ _
-        (λ _. calm _ 0 _ (offer-calm p q _))
-        (λ _. silent ((serverAt f k) .reserved) 1)
+      (λ _. calm _ 0 _ (offer-calm p q _))
+      (λ _. silent ((serverAt f k) .reserved) 1)
 
   -- A place of the server replaced: address a lent until l, with record r and open write o.
 
@@ -94,10 +94,11 @@ module _ (f : Facade) (g : Ranged f) (four : length (f .servers) ≡ 4) (one : O
     lender-raised : Raised (world f) k lender
     unfolding lender
     lender-raised = record {
-        place = place;
-        row = length-set ((serverAt f k) .potlease) a r ∙ v .rows k hk;
-        up = lender-up;
-        lead = λ a′ e ha′ al le c. omega (arith, c .led k hk al le, lender-up a′) }
+      place = place;
+      row = length-set ((serverAt f k) .potlease) a r ∙ v .rows k hk;
+      up = lender-up;
+      lead = λ a′ e ha′ al le c. omega (arith, c .led k hk al le, lender-up a′);
+    }
 
     lender-grows : Grows (world f) (servedBy (world f) k lender out)
     lender-grows = served-grows (world f) v k lender out lender-raised
@@ -111,19 +112,19 @@ module _ (f : Facade) (g : Ranged f) (four : length (f .servers) ≡ 4) (one : O
     unfolding lender
     lender-lent c a′ ha′ =
         set-any (λ x. Cov (servedBy (world f) k lender out) a′ x) ((serverAt f k) .lent) a l 0 a′ (λ q. rw q c)
-          (cov-grows (world f) _ lender-grows a′ _ ha′ (v .lents k a′ hk ha′))
+        (cov-grows (world f) _ lender-grows a′ _ ha′ (v .lents k a′ hk ha′))
 
     lender-open : OpenOk (servedBy (world f) k lender out) a o → (a′ : ℕ) → a′ < f .config .addresses → OpenOk (servedBy (world f) k lender out) a′ (writeAt lender a′)
     unfolding lender
     lender-open c a′ ha′ =
         set-any (λ x. OpenOk (servedBy (world f) k lender out) a′ x) ((serverAt f k) .writes) a o noWrite a′ (λ q. rw q c)
-          (count-grows (world f) _ lender-grows a′ _ ((writeAt (serverAt f k) a′) .pending) (v .opens k a′ hk ha′))
+        (count-grows (world f) _ lender-grows a′ _ ((writeAt (serverAt f k) a′) .pending) (v .opens k a′ hk ha′))
 
   -- A grant to party p: k leads a, the lent end l is covered, and every promise of a to another client is over.
 
   module _ (al : T ((serverAt f k) .alive)) (rs : List Reservation) (p q a t l : ℕ) (ha : a < f .config .addresses) (lead : T (leadsAt (serverAt f k) a))
       (fits : (j : ℕ) → j < f .config .servers → l ≤ max (recordAt (serverAt f j) a) (f .time + f .config .skew + f .config .mclt))
-      (over : (i e : ℕ) → Claim (world f) i a e → p ≢ party (f .config) i → e + f .config .skew < f .time) where
+      (over : (i e : ℕ) → Claim (world f) i a e → p ≢ clientParty (f .config) i → e + f .config .skew < f .time) where
     new-record : ℕ
     new-record = max (recordAt (serverAt f k) a) (writtenEnd t l)
 
@@ -151,16 +152,17 @@ module _ (f : Facade) (g : Ranged f) (four : length (f .servers) ≡ 4) (one : O
     grant-cov : Cov after a l
     unfolding after grantor new-record lender
     grant-cov = record {
-        led = λ j hj. set-case (λ x. T (x .alive) → T (leadsAt x a) → l ≤ recordAt x a) (f .servers) k grantor noServer j place
+      led = λ j hj. set-case (λ x. T (x .alive) → T (leadsAt x a) → l ≤ recordAt x a) (f .servers) k grantor noServer j place
           (λ e al le. omega (arith, getD-set-same ((serverAt f k) .potlease) a new-record 0 (omega (arith, v .rows k hk, ok .addresses-high))))
           (λ ne al′ le. absurd (ne (one j k a hj hk ha al′ al le lead)));
-        every = λ j hj. omega (arith, fits j hj, grows .records j a) }
+      every = λ j hj. omega (arith, fits j hj, grows .records j a);
+    }
 
     grant-open : OpenOk after a new-write
     unfolding new-write
     grant-open = λ j hj. set-any (λ x. T x → writtenEnd t l ≤ recordAt (srv after j) a) (replicate 4 false) k true false j
-      (λ e _. rw e (unfold new-record in omega (arith, grant-record)))
-      (rep-ind (λ x. T x → writtenEnd t l ≤ recordAt (srv after j) a) 4 false false j (λ x. absurd x) (λ x. absurd x))
+        (λ e _. rw e (unfold new-record in omega (arith, grant-record)))
+        (rep-ind (λ x. T x → writtenEnd t l ≤ recordAt (srv after j) a) 4 false false j (λ x. absurd x) (λ x. absurd x))
 
     Granted : Message → Type 0
     Granted m = Or (message k p q (Ack a (ackEnd t l)) ≡ m) (ToServer (λ j. message k j q (Write a (writtenEnd t l))) (f .config .servers) m)
@@ -177,12 +179,12 @@ module _ (f : Facade) (g : Ranged f) (four : length (f .servers) ≡ 4) (one : O
       grant-body m (inr (inr x)) = rw (← x .is) tt
 
       NewOrOld : ℕ → ℕ → ℕ → Type 0
-      NewOrOld i a′ e = Or (Claim (world f) i a′ e) ((p ≡ party (f .config) i) × (a ≡ a′) × (l ≡ e))
+      NewOrOld i a′ e = Or (Claim (world f) i a′ e) ((p ≡ clientParty (f .config) i) × (a ≡ a′) × (l ≡ e))
 
       sent-claim : (m : Message) (i a′ e : ℕ) → Promises (f .config) m i a′ e → Or (Waits f m) (Granted m) → NewOrOld i a′ e
       unfolding Granted NewOrOld
       sent-claim m i a′ e c (inl x) = inl (sent m x c)
-      sent-claim m i a′ e c (inr (inl y)) = inr (rw (← y) at c)
+      sent-claim m i a′ e c (inr (inl y)) = let z = rw (← y) at c in inr (z .0, z .1, omega (arith, z .2))
       sent-claim m i a′ e c (inr (inr x)) = absurd (rw (← x .is) at c)
 
       new-claim : (i a′ e : ℕ) → Claim after i a′ e → NewOrOld i a′ e
@@ -205,11 +207,11 @@ module _ (f : Facade) (g : Ranged f) (four : length (f .servers) ≡ 4) (one : O
       granted-leased : Leased after
       unfolding after grantor
       granted-leased = served (world f) v k grantor out (lender-raised a ha rs l new-record new-write more)
-        (lender-lent a ha rs l new-record new-write more grant-cov)
-        (lender-open a ha rs l new-record new-write more grant-open)
-        (λ m x. grant-body m (says m x))
-        (λ i a′ e ha′ c. covered i a′ e ha′ (new-claim i a′ e c))
-        (λ i a′ e i′ e′ ha′ c c′ ne. apart i a′ e i′ e′ ha′ (new-claim i a′ e c) (new-claim i′ a′ e′ c′) ne)
+          (lender-lent a ha rs l new-record new-write more grant-cov)
+          (lender-open a ha rs l new-record new-write more grant-open)
+          (λ m x. grant-body m (says m x))
+          (λ i a′ e ha′ c. covered i a′ e ha′ (new-claim i a′ e c))
+          (λ i a′ e i′ e′ ha′ c c′ ne. apart i a′ e i′ e′ ha′ (new-claim i a′ e c) (new-claim i′ a′ e′ c′) ne)
 
     keeps-grant : Keeps (granted (f .config) k (withReserved (serverAt f k) rs) p q a t l)
     unfolding granted after grantor lender new-record new-write
@@ -219,22 +221,22 @@ module _ (f : Facade) (g : Ranged f) (four : length (f .servers) ≡ 4) (one : O
   unfolding onRequest grants dropped grantable expired
   keeps-request al p q a t ha =
       cond-case Keeps (leadsAt (serverAt f k) a and ltb (recordAt (serverAt f k) a + expirySlack (f .config)) (clock f k)) _ _
-        (λ y. let past : recordAt (serverAt f k) a + expirySlack (f .config) < clock f k = ltb→lt _ _ (and-r (leadsAt (serverAt f k) a) _ y) in
-          keeps-grant al _ p q a t (clock f k + f .config .mclt) ha (and-l _ _ y)
-          (λ j hj. omega (arith, high))
-          (λ i e c _. omega (arith, high, (v .claims i a e ha c) .led k hk al (and-l _ _ y))))
-        (λ _. silent _ 1)
+      (λ y. let past : recordAt (serverAt f k) a + expirySlack (f .config) < clock f k = ltb→lt _ _ (and-r (leadsAt (serverAt f k) a) _ y) in
+      keeps-grant al _ p q a t (clock f k + f .config .mclt) ha (and-l _ _ y)
+      (λ j hj. omega (arith, high))
+      (λ i e c _. omega (arith, high, (v .claims i a e ha c) .led k hk al (and-l _ _ y))))
+      (λ _. silent _ 1)
 
   pub keeps-renew : T ((serverAt f k) .alive) → (i q a e t : ℕ) → a < f .config .addresses → Claim (world f) i a e
-      → Keeps (onRenew (f .config) k (clock f k) (serverAt f k) (party (f .config) i) q a e t)
+      → Keeps (onRenew (f .config) k (clock f k) (serverAt f k) (clientParty (f .config) i) q a e t)
   unfolding onRenew
   keeps-renew al i q a e t ha claim =
       cond-case Keeps (leadsAt (serverAt f k) a and leb (clock f k) e) _ _
-        (λ y. let due : clock f k ≤ e = leb→le _ _ (and-r (leadsAt (serverAt f k) a) _ y) in
-          keeps-grant al ((serverAt f k) .reserved) (party (f .config) i) q a t (max (clock f k + f .config .mclt) (lentAt (serverAt f k) a)) ha (and-l _ _ y)
-          (λ j hj. omega (arith, high, (v .lents k a hk ha) .every j hj))
-          (λ i′ e′ c ne. omega (arith, low, v .pair i a e i′ e′ ha claim c (λ x. ne (ap (party (f .config)) x)))))
-        (λ _. silent ((serverAt f k) .reserved) 1)
+      (λ y. let due : clock f k ≤ e = leb→le _ _ (and-r (leadsAt (serverAt f k) a) _ y) in
+      keeps-grant al ((serverAt f k) .reserved) (clientParty (f .config) i) q a t (max (clock f k + f .config .mclt) (lentAt (serverAt f k) a)) ha (and-l _ _ y)
+      (λ j hj. omega (arith, high, (v .lents k a hk ha) .every j hj))
+      (λ i′ e′ c ne. omega (arith, low, v .pair i a e i′ e′ ha claim c (λ x. ne (ap (clientParty (f .config)) x)))))
+      (λ _. silent ((serverAt f k) .reserved) 1)
 
   -- Write: the record rises, and the write ack may say so.
 
@@ -242,10 +244,10 @@ module _ (f : Facade) (g : Ranged f) (four : length (f .servers) ≡ 4) (one : O
   unfolding onWrite
   keeps-write p q a e ha sub =
       quiet (world f) v k s out raised
-        (λ a′ ha′. cov-grows (world f) _ grows a′ _ ha′ (v .lents k a′ hk ha′))
-        (λ a′ ha′. count-grows (world f) _ grows a′ _ ((writeAt (serverAt f k) a′) .pending) (v .opens k a′ hk ha′))
-        (λ m x. by _ m (sub m x) (λ y. body-grows (world f) _ grows (m .sender) (m .body) (v .acks m y)) (λ y. rw (← posted-one (message k p q (WriteAck a e)) m y) new))
-        (λ m x i a′ e′ c. by _ m (sub m x) (λ y. sent m y c) (λ y. absurd (rw (← posted-one (message k p q (WriteAck a e)) m y) at c)))
+      (λ a′ ha′. cov-grows (world f) _ grows a′ _ ha′ (v .lents k a′ hk ha′))
+      (λ a′ ha′. count-grows (world f) _ grows a′ _ ((writeAt (serverAt f k) a′) .pending) (v .opens k a′ hk ha′))
+      (λ m x. by _ m (sub m x) (λ y. body-grows (world f) _ grows (m .sender) (m .body) (v .acks m y)) (λ y. rw (← posted-one (message k p q (WriteAck a e)) m y) new))
+      (λ m x i a′ e′ c. by _ m (sub m x) (λ y. sent m y c) (λ y. absurd (rw (← posted-one (message k p q (WriteAck a e)) m y) at c)))
     where
       s : Server
       s = withRecord (serverAt f k) a (max (recordAt (serverAt f k) a) e)
@@ -255,10 +257,11 @@ module _ (f : Facade) (g : Ranged f) (four : length (f .servers) ≡ 4) (one : O
 
       raised : Raised (world f) k s
       raised = record {
-          place = place;
-          row = length-set ((serverAt f k) .potlease) a _ ∙ v .rows k hk;
-          up = up;
-          lead = λ a′ e′ ha′ al le c. omega (arith, c .led k hk al le, up a′) }
+        place = place;
+        row = length-set ((serverAt f k) .potlease) a _ ∙ v .rows k hk;
+        up = up;
+        lead = λ a′ e′ ha′ al le c. omega (arith, c .led k hk al le, up a′);
+      }
 
       grows : Grows (world f) (servedBy (world f) k s out)
       grows = served-grows (world f) v k s out raised
@@ -269,39 +272,40 @@ module _ (f : Facade) (g : Ranged f) (four : length (f .servers) ≡ 4) (one : O
   -- Write ack: it counts a server whose record has the end; when all are in, every record has it.
 
   -- the open write that an ack answers counts only servers whose record has its end
-  counted : (q e a : ℕ) (acked : List Bool) (o : Pending) → T (answers q e o) → CountOk (world f) a acked o
+  counted : (q e a : ℕ) (acked : List Bool) (o : Pending) → T (matchesWrite q e o) → CountOk (world f) a acked o
       → (j : ℕ) → j < f .config .servers → T (getD acked j false) → e ≤ recordAt (serverAt f j) a
-  unfolding answers
+  unfolding matchesWrite
   counted q e a acked Closed t c j hj x = absurd t
-  counted q e a acked (Open q′ e′) t c j hj x = let same-end : e ≡ e′ = eqb→eq e e′ (and-r _ _ t) in rw same-end (c j hj x)
+  counted q e a acked (Open q′ e′) t c j hj x = let z = and-r _ _ t in omega (arith, c j hj x, eqb→eq)
 
   module _ (p q a e : ℕ) (ha : a < f .config .addresses) (from : e ≤ recordAt (serverAt f p) a) where
     acked-now : List Bool
     acked-now = set ((writeAt (serverAt f k) a) .acked) p true
 
-    counted-now : T (answers q e ((writeAt (serverAt f k) a) .pending)) → (j : ℕ) → j < f .config .servers → T (getD acked-now j false) → e ≤ recordAt (serverAt f j) a
+    counted-now : T (matchesWrite q e ((writeAt (serverAt f k) a) .pending)) → (j : ℕ) → j < f .config .servers → T (getD acked-now j false) → e ≤ recordAt (serverAt f j) a
     unfolding acked-now
     counted-now t j hj =
         set-any (λ x. T x → e ≤ recordAt (serverAt f j) a) ((writeAt (serverAt f k) a) .acked) p true false j
-          (λ is _. rw is from)
-          (counted q e a ((writeAt (serverAt f k) a) .acked) ((writeAt (serverAt f k) a) .pending) t (v .opens k a hk ha) j hj)
+        (λ is _. rw is from)
+        (counted q e a ((writeAt (serverAt f k) a) .acked) ((writeAt (serverAt f k) a) .pending) t (v .opens k a hk ha) j hj)
 
     -- every record has it, so it is covered with the lent end
     all-have : ((j : ℕ) → j < f .config .servers → e ≤ recordAt (serverAt f j) a) → Cov (world f) a (max (lentAt (serverAt f k) a) e)
     all-have every = record {
-        led = λ j hj al le. omega (arith, (v .lents k a hk ha) .led j hj al le, every j hj);
-        every = λ j hj. omega (arith, (v .lents k a hk ha) .every j hj, every j hj) }
+      led = λ j hj al le. omega (arith, (v .lents k a hk ha) .led j hj al le, every j hj);
+      every = λ j hj. omega (arith, (v .lents k a hk ha) .every j hj, every j hj);
+    }
 
     -- another lent end and open write for a, the records as they were
     rewritten : (l : ℕ) (o : OpenWrite) → Cov (world f) a l → OpenOk (world f) a o → Keeps (answer (withWrite (serverAt f k) a l o) 0 nothing)
     rewritten l o cov opn sub =
         quiet (world f) v k s out raised
-          (λ a′ ha′. set-any (λ x. Cov (servedBy (world f) k s out) a′ x) ((serverAt f k) .lent) a l 0 a′
-            (λ is. rw is (cov-grows (world f) _ grows a l ha cov)) (cov-grows (world f) _ grows a′ _ ha′ (v .lents k a′ hk ha′)))
-          (λ a′ ha′. set-any (λ x. OpenOk (servedBy (world f) k s out) a′ x) ((serverAt f k) .writes) a o noWrite a′
-            (λ is. rw is (count-grows (world f) _ grows a (o .acked) (o .pending) opn)) (count-grows (world f) _ grows a′ _ ((writeAt (serverAt f k) a′) .pending) (v .opens k a′ hk ha′)))
-          (λ m x. by _ m (sub m x) (λ y. body-grows (world f) _ grows (m .sender) (m .body) (v .acks m y)) (λ y. posted-nothing m y))
-          (λ m x i a′ e′ c. by _ m (sub m x) (λ y. sent m y c) (λ y. posted-nothing m y))
+        (λ a′ ha′. set-any (λ x. Cov (servedBy (world f) k s out) a′ x) ((serverAt f k) .lent) a l 0 a′
+        (λ is. rw is (cov-grows (world f) _ grows a l ha cov)) (cov-grows (world f) _ grows a′ _ ha′ (v .lents k a′ hk ha′)))
+        (λ a′ ha′. set-any (λ x. OpenOk (servedBy (world f) k s out) a′ x) ((serverAt f k) .writes) a o noWrite a′
+        (λ is. rw is (count-grows (world f) _ grows a (o .acked) (o .pending) opn)) (count-grows (world f) _ grows a′ _ ((writeAt (serverAt f k) a′) .pending) (v .opens k a′ hk ha′)))
+        (λ m x. by _ m (sub m x) (λ y. body-grows (world f) _ grows (m .sender) (m .body) (v .acks m y)) (λ y. posted-nothing m y))
+        (λ m x i a′ e′ c. by _ m (sub m x) (λ y. sent m y c) (λ y. posted-nothing m y))
       where
         s : Server
         s = withWrite (serverAt f k) a l o
@@ -315,11 +319,11 @@ module _ (f : Facade) (g : Ranged f) (four : length (f .servers) ≡ 4) (one : O
     pub keeps-write-ack : Keeps (onWriteAck (f .config) (serverAt f k) p q a e)
     unfolding onWriteAck acknowledged acked-now
     keeps-write-ack =
-        cond-case Keeps (leadsAt (serverAt f k) a and answers q e ((writeAt (serverAt f k) a) .pending)) _ _
-          (λ y. cond-case (λ s. Keeps (answer s 0 nothing)) (all (λ j. getD acked-now j false) (f .config .servers)) _ _
-            (λ full. rewritten _ closed (all-have (λ j hj. counted-now (and-r _ _ y) j hj (all-at (λ j. getD acked-now j false) (f .config .servers) full j hj))) tt)
-            (λ _. rewritten _ (opened q e acked-now) (v .lents k a hk ha) (counted-now (and-r _ _ y))))
-          (λ _. silent ((serverAt f k) .reserved) 1)
+        cond-case Keeps (leadsAt (serverAt f k) a and matchesWrite q e ((writeAt (serverAt f k) a) .pending)) _ _
+        (λ y. cond-case (λ s. Keeps (answer s 0 nothing)) (all (λ j. getD acked-now j false) (f .config .servers)) _ _
+        (λ full. rewritten _ closed (all-have (λ j hj. counted-now (and-r _ _ y) j hj (all-at (λ j. getD acked-now j false) (f .config .servers) full j hj))) tt)
+        (λ _. rewritten _ (opened q e acked-now) (v .lents k a hk ha) (counted-now (and-r _ _ y))))
+        (λ _. silent ((serverAt f k) .reserved) 1)
 
   -- A message, by its body.
 
@@ -332,7 +336,7 @@ module _ (f : Facade) (g : Ranged f) (four : length (f .servers) ≡ 4) (one : O
     keeps-body (Offer a) t cl ok = silent ((serverAt f k) .reserved) 1
     keeps-body (Request a w) t cl ok = keeps-request al from q a w (ltb→lt a _ (and-l _ _ (and-r _ _ (and-r _ _ t))))
     keeps-body (Renew a e w) t cl ok =
-        let is : from ≡ party (f .config) (from - f .config .servers) = omega (arith, leb→le (f .config .servers) from (and-l _ _ (and-l _ _ t))) in
+        let is : from ≡ clientParty (f .config) (from - f .config .servers) = omega (arith, leb→le (f .config .servers) from (and-l _ _ (and-l _ _ t))) in
         rw is (keeps-renew al (from - f .config .servers) q a e w (ltb→lt a _ (and-l _ _ (and-r _ _ (and-r _ _ t)))) (cl (from - f .config .servers) a e (is, refl, refl)))
     keeps-body (Write a e) t cl ok = keeps-write from q a e (ltb→lt a _ (and-l _ _ (and-r _ _ (and-r _ _ t))))
     keeps-body (WriteAck a e) t cl ok = keeps-write-ack from q a e (ltb→lt a _ (and-l _ _ (and-r _ _ (and-r _ _ t)))) ok
@@ -342,5 +346,5 @@ module _ (f : Facade) (g : Ranged f) (four : length (f .servers) ≡ 4) (one : O
   unfolding serverReceives messageInRange
   keeps-receive m x =
       cond-case Keeps ((serverAt f k) .alive) _ _
-        (λ al. keeps-body al (m .sender) (m .receiver) (m .interaction) (m .body) (and-r _ _ (g .message m x)) (λ i a e c. sent m x c) (v .acks m x))
-        (λ _. silent ((serverAt f k) .reserved) 2)
+      (λ al. keeps-body al (m .sender) (m .receiver) (m .interaction) (m .body) (and-r _ _ (g .message m x)) (λ i a e c. sent m x c) (v .acks m x))
+      (λ _. silent ((serverAt f k) .reserved) 2)

@@ -18,12 +18,12 @@ use Rattle.types.specs.declared.Body.the-variants.{Empty, Discover, Offer, Requ
 use Rattle.types.specs.declared.Message.{Message}
 use Rattle.types.specs.declared.Facade.{Facade}
 use Rattle.types.specs.declared.ClientAnswer.{ClientAnswer}
-use Rattle.rules.specs.Tests.{_and_, filled}
+use Rattle.rules.specs.Conditions.{_and_, filled}
 use Rattle.rules.specs.Clock.{plus}
-use Rattle.rules.specs.Parts.{noClient, inState, stateAt, offsetAt, clock, party, message, withNext}
+use Rattle.rules.specs.Parts.{noClient, inState, stateAt, offsetAt, clock, clientParty, message, withNext}
 use Rattle.rules.specs.Messages.{nothing, sendAll}
-use Rattle.rules.specs.Client.{reply, broadcast, lapsed, discovers, requests, renews, asksWith, onOffer, expects, newEnd, onAck, clientHandles, clientReceives}
-use Rattle.rules.specs.Steps.{Action, pass, discover, request, renew, isOffered, isHolding, stateAllows, exists, clientActs, moved, lapse, effect}
+use Rattle.rules.specs.Client.{isOffered, isHolding, reply, broadcast, lapsed, discovers, requests, renews, asksWith, onOffer, expects, newEnd, onAck, clientHandles, clientReceives}
+use Rattle.rules.specs.Steps.{Action, pass, discover, request, renew, stateAllows, exists, clientActs, moved, lapse, effect}
 use Rattle.rules.proofs.Laws.{Or, inl, inr, and-l, and-r, cond-case, set-any, length-filled, filled-at}
 use Rattle.rules.proofs.Cable.{Waits, Posted, ToServer, waits-sent, posted-nothing, posted-each}
 use Rattle.rules.proofs.Kept.{Configured, configured, Ranged, Kept}
@@ -44,7 +44,7 @@ module _ (f : Facade) (g : Ranged f) (v : Leased (world f)) where
   -- Client i comes to state x; what it holds then was promised to it, and is above its clock.
 
   abbrev Becomes : ℕ → State → Type 0
-  Becomes i x = (a e q : ℕ) → x ≡ Holding a e q → Claim (world f) i a e × (clock f (party (f .config) i) < e)
+  Becomes i x = (a e q : ℕ) → x ≡ Holding a e q → Claim (world f) i a e × (clock f (clientParty (f .config) i) < e)
 
   becomes-unheld : (i : ℕ) (x : State) → T (not (isHolding x)) → Becomes i x
   becomes-unheld i x t a e q p = absurd (unheld x a e q t p)
@@ -62,32 +62,32 @@ module _ (f : Facade) (g : Ranged f) (v : Leased (world f)) where
 
     client-leased : Leased (passedBy (world f) (f .time) (f .offsets) (set (f .clients) i (inState x)) out)
     client-leased = plain (world f) v (f .time) (f .offsets) (set (f .clients) i (inState x)) out (le-refl _) old-claim mok
-      (λ i′ a e q h. set-any (λ y. y .state ≡ Holding a e q → clock f (party (f .config) i′) < e) (f .clients) i (inState x) noClient i′
+        (λ i′ a e q h. set-any (λ y. y .state ≡ Holding a e q → clock f (clientParty (f .config) i′) < e) (f .clients) i (inState x) noClient i′
         (λ is y. rw is (new a e q y .1)) (v .above i′ a e q h))
 
   -- Steps of a client: a broadcast of body b, which promises nothing that was not promised.
 
   module _ (i : ℕ) (x : State) (n q : ℕ) (b : Body) (new : Becomes i x) (bok : (from : ℕ) → BodyOk (world f) from b)
-      (says : (to i′ a e : ℕ) → Says (f .config) (party (f .config) i) to b i′ a e → Claim (world f) i′ a e)
+      (says : (to i′ a e : ℕ) → Says (f .config) (clientParty (f .config) i) to b i′ a e → Claim (world f) i′ a e)
       (len : length (f .messages) ≡ 128) where
     after : Facade
     after = (clientActs (withNext f n) i (reply x 0 (broadcast (f .config) i q b))) .facade
 
     module _ (room : after .waiting ≤ 128) where
-      from-where : (m : Message) → Waits after m → Or (Waits f m) (ToServer (λ j. message (party (f .config) i) j q b) (f .config .servers) m)
+      from-where : (m : Message) → Waits after m → Or (Waits f m) (ToServer (λ j. message (clientParty (f .config) i) j q b) (f .config .servers) m)
       unfolding after
       from-where m y = go (waits-sent f (broadcast (f .config) i q b) (omega arith) m y)
         where
-          go : Or (Waits f m) (Posted (broadcast (f .config) i q b) m) → Or (Waits f m) (ToServer (λ j. message (party (f .config) i) j q b) (f .config .servers) m)
+          go : Or (Waits f m) (Posted (broadcast (f .config) i q b) m) → Or (Waits f m) (ToServer (λ j. message (clientParty (f .config) i) j q b) (f .config .servers) m)
           go (inl z) = inl z
           go (inr z) = inr (posted-each _ (f .config .servers) (ok .servers-high) m z)
 
-      body-ok : (m : Message) → Or (Waits f m) (ToServer (λ j. message (party (f .config) i) j q b) (f .config .servers) m) → BodyOk (world f) (m .sender) (m .body)
+      body-ok : (m : Message) → Or (Waits f m) (ToServer (λ j. message (clientParty (f .config) i) j q b) (f .config .servers) m) → BodyOk (world f) (m .sender) (m .body)
       body-ok m (inl y) = v .acks m y
       body-ok m (inr y) = rw (← y .is) (bok _)
 
       old : (m : Message) (i′ a e : ℕ) → Promises (f .config) m i′ a e
-          → Or (Waits f m) (ToServer (λ j. message (party (f .config) i) j q b) (f .config .servers) m) → Claim (world f) i′ a e
+          → Or (Waits f m) (ToServer (λ j. message (clientParty (f .config) i) j q b) (f .config .servers) m) → Claim (world f) i′ a e
       old m i′ a e c (inl y) = sent m y c
       old m i′ a e c (inr y) = says (y .to) i′ a e (rw (← y .is) at c)
 
@@ -95,10 +95,18 @@ module _ (f : Facade) (g : Ranged f) (v : Leased (world f)) where
       unfolding after
       broadcast-leased = client-leased i x (Waits after) new (λ m y. body-ok m (from-where m y)) (λ m y i′ a e c. old m i′ a e c (from-where m y))
 
+  -- a client that does not hold discovers
+  discover-go : (i : ℕ) → length (f .messages) ≡ 128 → (b : Bool) → T (not b)
+      → ((clientActs (withNext f (f .next + 1)) i (cond b (reply (stateAt f i) 1 nothing) (reply (Asking (f .next)) 0 (broadcast (f .config) i (f .next) Discover)))) .facade) .waiting ≤ 128
+      → Leased (world ((clientActs (withNext f (f .next + 1)) i (cond b (reply (stateAt f i) 1 nothing) (reply (Asking (f .next)) 0 (broadcast (f .config) i (f .next) Discover)))) .facade))
+  unfolding after isHolding
+  discover-go i len true n room = absurd n
+  discover-go i len false n room =
+      broadcast-leased i (Asking (f .next)) (f .next + 1) (f .next) Discover (becomes-unheld i (Asking (f .next)) tt) (λ from. tt) (λ to i′ a e c. absurd c) len room
+
   pub leased-discover : (i : ℕ) → length (f .messages) ≡ 128 → Kept f (discover i) → Leased (world ((effect f (discover i)) .facade))
-  unfolding effect discovers after isHolding
-  leased-discover i len w =
-      broadcast-leased i (Asking (f .next)) (f .next + 1) (f .next) Discover (becomes-unheld i (Asking (f .next)) tt) (λ from. tt) (λ to i′ a e c. absurd c) len (w .room)
+  unfolding effect discovers stateAllows
+  leased-discover i len w = discover-go i len (isHolding (stateAt f i)) (w .state) (w .room)
 
   -- only an offered client requests
   request-go : (i t : ℕ) → length (f .messages) ≡ 128 → (x : State) → T (isOffered x)
@@ -130,7 +138,7 @@ module _ (f : Facade) (g : Ranged f) (v : Leased (world f)) where
       new : Becomes i (Holding a e (f .next))
       new a′ e′ q′ y = let p : a ≡ a′ = cc in let p′ : e ≡ e′ = cc in stays i hi a′ e′ q (rw (← p, ← p′) is)
 
-      says : (to i′ a′ e′ : ℕ) → (party (f .config) i ≡ party (f .config) i′) × (a ≡ a′) × (e ≡ e′) → Claim (world f) i′ a′ e′
+      says : (to i′ a′ e′ : ℕ) → (clientParty (f .config) i ≡ clientParty (f .config) i′) × (a ≡ a′) × (e ≡ e′) → Claim (world f) i′ a′ e′
       says to i′ a′ e′ c = let j : i ≡ i′ = omega (arith, c .0) in rw (← j, ← c .1, ← c .2) (holds q hi is)
 
   pub leased-renew : (i t : ℕ) → length (f .messages) ≡ 128 → Kept f (renew i t) → Leased (world ((effect f (renew i t)) .facade))
@@ -156,18 +164,18 @@ module _ (f : Facade) (g : Ranged f) (v : Leased (world f)) where
     later = moved f d p z
 
     state-left : ℕ → Client
-    state-left i = inState (lapsed (clock later (party (f .config) i)) (stateAt f i))
+    state-left i = inState (lapsed (clock later (clientParty (f .config) i)) (stateAt f i))
 
     left : (i a e q : ℕ) → i < f .config .clients → (getD (filled state-left (f .config .clients) (f .clients)) i noClient) .state ≡ Holding a e q
-        → (stateAt f i ≡ Holding a e q) × (clock later (party (f .config) i) < e)
+        → (stateAt f i ≡ Holding a e q) × (clock later (clientParty (f .config) i) < e)
     unfolding state-left
     left i a e q hi y = go (decLt i (length (f .clients)))
       where
-        go : Dec (i < length (f .clients)) → (stateAt f i ≡ Holding a e q) × (clock later (party (f .config) i) < e)
+        go : Dec (i < length (f .clients)) → (stateAt f i ≡ Holding a e q) × (clock later (clientParty (f .config) i) < e)
         go (yes h) = lapsed-held _ (stateAt f i) a e q (rw (filled-at state-left (f .config .clients) (f .clients) noClient i hi h) at y)
         go (no nh) =
-          let short : length (filled state-left (f .config .clients) (f .clients)) ≤ i = omega (arith, length-filled state-left (f .config .clients) (f .clients)) in
-          no-holder a e q (rw (List·getD-eq-default (filled state-left (f .config .clients) (f .clients)) noClient short) at y)
+            let short : length (filled state-left (f .config .clients) (f .clients)) ≤ i = omega (arith, length-filled state-left (f .config .clients) (f .clients)) in
+            no-holder a e q (rw (List·getD-eq-default (filled state-left (f .config .clients) (f .clients)) noClient short) at y)
 
     old-promise : (out : Message → Type 0) (xs : List Client)
         → ((i a e q : ℕ) → i < f .config .clients → (getD xs i noClient) .state ≡ Holding a e q → stateAt f i ≡ Holding a e q)
@@ -179,9 +187,9 @@ module _ (f : Facade) (g : Ranged f) (v : Leased (world f)) where
     pub leased-pass : Leased (world ((effect f (pass d p z)) .facade))
     unfolding effect lapse later state-left
     leased-pass = plain (world f) v (f .time + d) (set (f .offsets) p (offsetAt f p +ℤ z)) (filled state-left (f .config .clients) (f .clients)) (Waits f) (omega arith)
-      (old-promise (Waits f) (filled state-left (f .config .clients) (f .clients)) (λ i a e q h y. left i a e q h y .0) (λ m y. y))
-      (v .acks)
-      (λ i a e q h y. left i a e q h y .1)
+        (old-promise (Waits f) (filled state-left (f .config .clients) (f .clients)) (λ i a e q h y. left i a e q h y .0) (λ m y. y))
+        (v .acks)
+        (λ i a e q h y. left i a e q h y .1)
 
   -- Messages to client i, which sends nothing then.
 
@@ -204,16 +212,16 @@ module _ (f : Facade) (g : Ranged f) (v : Leased (world f)) where
     keeps-offer q a =
         cond-case Keeps (asksWith (stateAt f i) q) (reply (Offered q a) 0 nothing) _ (λ _. comes-to (Offered q a) 0 (becomes-unheld i (Offered q a) tt)) (λ _. unmoved)
 
-    keeps-ack : (q a e : ℕ) → Claim (world f) i a e → Keeps (onAck (clock f (party (f .config) i)) (stateAt f i) q a e)
+    keeps-ack : (q a e : ℕ) → Claim (world f) i a e → Keeps (onAck (clock f (clientParty (f .config) i)) (stateAt f i) q a e)
     unfolding onAck
     keeps-ack q a e c =
-        cond-case Keeps (expects (stateAt f i) q a and ltb (clock f (party (f .config) i)) e) (reply (Holding a (newEnd (stateAt f i) e) q) 0 nothing) _
-          (λ t. comes-to (Holding a e q) 0 (λ a′ e′ q′ y. let p : a ≡ a′ = cc in let p′ : e ≡ e′ = cc in
-            (rw (← p, ← p′) c, rw (← p′) (ltb→lt _ _ (and-r (expects (stateAt f i) q a) (ltb (clock f (party (f .config) i)) e) t)))))
-          (λ _. unmoved)
+        cond-case Keeps (expects (stateAt f i) q a and ltb (clock f (clientParty (f .config) i)) e) (reply (Holding a (newEnd (stateAt f i) e) q) 0 nothing) _
+        (λ t. comes-to (Holding a e q) 0 (λ a′ e′ q′ y. let p : a ≡ a′ = cc in let p′ : e ≡ e′ = cc in
+        (rw (← p, ← p′) c, rw (← p′) (ltb→lt _ _ (and-r (expects (stateAt f i) q a) (ltb (clock f (clientParty (f .config) i)) e) t)))))
+        (λ _. unmoved)
 
-    keeps-body : (from to q : ℕ) (b : Body) → to ≡ party (f .config) i → ((i′ a e : ℕ) → Says (f .config) from to b i′ a e → Claim (world f) i′ a e)
-        → Keeps (clientHandles (clock f (party (f .config) i)) (stateAt f i) q b)
+    keeps-body : (from to q : ℕ) (b : Body) → to ≡ clientParty (f .config) i → ((i′ a e : ℕ) → Says (f .config) from to b i′ a e → Claim (world f) i′ a e)
+        → Keeps (clientHandles (clock f (clientParty (f .config) i)) (stateAt f i) q b)
     unfolding clientHandles
     keeps-body from to q Empty is cl = unmoved
     keeps-body from to q Discover is cl = unmoved
@@ -224,5 +232,5 @@ module _ (f : Facade) (g : Ranged f) (v : Leased (world f)) where
     keeps-body from to q (WriteAck a e) is cl = unmoved
     keeps-body from to q (Ack a e) is cl = keeps-ack q a e (cl i a e (is, refl, refl))
 
-    pub keeps-receive : (m : Message) → Waits f m → m .receiver ≡ party (f .config) i → Keeps (clientReceives (clock f (m .receiver)) (stateAt f i) m)
+    pub keeps-receive : (m : Message) → Waits f m → m .receiver ≡ clientParty (f .config) i → Keeps (clientReceives (clock f (m .receiver)) (stateAt f i) m)
     keeps-receive m y is = rw is (keeps-body (m .sender) (m .receiver) (m .interaction) (m .body) is (λ i′ a e c. sent m y c))

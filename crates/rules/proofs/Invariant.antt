@@ -16,13 +16,13 @@ use Rattle.types.specs.declared.Message.{Message}
 use Rattle.types.specs.declared.Facade.{Facade}
 use Rattle.types.specs.declared.Step.{Step}
 use Rattle.types.specs.declared.Answer.{Answer}
-use Rattle.rules.specs.Tests.{_and_}
-use Rattle.rules.specs.Parts.{noServer, noWrite, noClient, serverAt, stateAt, messageAt, party, leadsAt, lentAt, recordAt, writeAt}
+use Rattle.rules.specs.Conditions.{_and_}
+use Rattle.rules.specs.Parts.{noServer, noWrite, noClient, serverAt, stateAt, messageAt, clientParty, leadsAt, lentAt, recordAt, writeAt}
 use Rattle.rules.specs.Ranges.{configInRange, stateInRange, inRange, isServer}
 use Rattle.rules.specs.Order.{rank}
 use Rattle.rules.specs.Messages.{without}
 use Rattle.rules.specs.Server.{closed}
-use Rattle.rules.specs.Steps.{Action, pass, fail, return, notice, discover, request, renew, deliver, lose, cleanup, unknown, freshServer, fresh, action, lapse, taken, handled, effect, refused, refusal, answerTo, step, run}
+use Rattle.rules.specs.Steps.{Action, pass, fail, return, notice, discover, request, renew, deliver, lose, cleanup, unknown, freshServer, fresh, action, lapse, takenOut, handled, effect, refused, refusal, answerTo, step, run}
 use Rattle.rules.proofs.Laws.{and-l, and-r, cond-case, rep-ind}
 use Rattle.rules.proofs.Cable.{Waits}
 use Rattle.rules.proofs.Kept.{Configured, configured, Ranged, ranged, Kept, kept}
@@ -45,7 +45,7 @@ unfolding handled
 config-handled f m = cond-case (λ (y : Answer). (y .facade) .config ≡ f .config) (isServer (f .config) (m .receiver)) _ _ (λ _. refl) (λ _. refl)
 
 config-effect : (f : Facade) (x : Action) → ((effect f x) .facade) .config ≡ f .config
-unfolding effect lapse taken
+unfolding effect lapse takenOut
 config-effect f (pass d p e) = refl
 config-effect f (fail k) = refl
 config-effect f (return k) = refl
@@ -96,8 +96,14 @@ module _ (f : Facade) (v : Invariant f) where
       go : Dec (i ≡ j) → i ≡ j
       go (yes p) = p
       go (no ne) =
-        absurd (omega (arith, v .leased .pair i a e j e′ (held-exists i a e q hi h) (holds q hi h) (holds q′ hj h′) ne, v .leased .above i a e q hi h, v .leased .above j a e′ q′ hj h′,
-          clock-low f g (party (f .config) i) (omega arith), clock-low f g (party (f .config) j) (omega arith)))
+          absurd (omega (
+            arith,
+            v .leased .pair i a e j e′ (held-exists i a e q hi h) (holds q hi h) (holds q′ hj h′) ne,
+            v .leased .above i a e q hi h,
+            v .leased .above j a e′ q′ hj h′,
+            clock-low f g (clientParty (f .config) i) (omega arith),
+            clock-low f g (clientParty (f .config) j) (omega arith),
+          ))
 
   pub recorded : (i k a e q : ℕ) → i < f .config .clients → k < f .config .servers → stateAt f i ≡ Holding a e q
       → T ((serverAt f k) .alive) → T (leadsAt (serverAt f k) a) → e ≤ recordAt (serverAt f k) a
@@ -112,7 +118,8 @@ module _ (f : Facade) (v : Invariant f) where
         range = in-range-kept f x (v .messages) e;
         messages = messages-kept f x (v .messages) e;
         led = subst (λ (c : Config). Led (rank (c .servers)) ((effect f x) .facade)) (sym (config-effect f x)) (led-kept (rank (f .config .servers)) f g (v .led) (round (f .config) ok) x w);
-        leased = leased-kept f g (v .led .servers) (v .messages) one-leads (v .leased) (v .led .leads) x w }
+        leased = leased-kept f g (v .led .servers) (v .messages) one-leads (v .leased) (v .led .leads) x w;
+      }
 
   pub kept-step : (s : Step) → Invariant ((step f s) .facade)
   unfolding step answerTo
@@ -139,13 +146,14 @@ no-claim c i a e (sent m p s) = absurd (omega (arith, p .below))
 leased-fresh : (c : Config) → Configured c → Leased (world (fresh c))
 unfolding fresh
 leased-fresh c ok = record {
-    rows = λ k h. of-fresh (λ s. length (s .potlease) ≡ 32) k h refl;
-    claims = λ i a e ha x. no-claim c i a e x;
-    lents = λ k a h ha. of-fresh (λ s. Cov (world (fresh c)) a (lentAt s a)) k h (rep-ind (λ x. Cov (world (fresh c)) a x) 32 0 0 a (cov-zero _ a) (cov-zero _ a));
-    opens = λ k a h ha. of-fresh (λ s. OpenOk (world (fresh c)) a (writeAt s a)) k h (rep-ind (λ x. OpenOk (world (fresh c)) a x) 32 closed noWrite a tt tt);
-    acks = λ m p. absurd (omega (arith, p .below));
-    pair = λ i a e i′ e′ ha x y ne. no-claim c i a e x;
-    above = λ i a e q h p. none-held i a e q p }
+  rows = λ k h. of-fresh (λ s. length (s .potlease) ≡ 32) k h refl;
+  claims = λ i a e ha x. no-claim c i a e x;
+  lents = λ k a h ha. of-fresh (λ s. Cov (world (fresh c)) a (lentAt s a)) k h (rep-ind (λ x. Cov (world (fresh c)) a x) 32 0 0 a (cov-zero _ a) (cov-zero _ a));
+  opens = λ k a h ha. of-fresh (λ s. OpenOk (world (fresh c)) a (writeAt s a)) k h (rep-ind (λ x. OpenOk (world (fresh c)) a x) 32 closed noWrite a tt tt);
+  acks = λ m p. absurd (omega (arith, p .below));
+  pair = λ i a e i′ e′ ha x y ne. no-claim c i a e x;
+  above = λ i a e q h p. none-held i a e q p;
+}
   where
     of-fresh : (P : Server → Type 0) (k : ℕ) → k < c .servers → P freshServer → P (getD (replicate 4 freshServer) k noServer)
     of-fresh P k h p = rw (getD-replicate 4 k freshServer noServer (omega (arith, ok .servers-high))) p
@@ -153,7 +161,11 @@ leased-fresh c ok = record {
 invariant-fresh : (c : Config) → T (configInRange c) → Invariant (fresh c)
 unfolding fresh
 invariant-fresh c t = record {
-    range = fresh-in-range c t; messages = refl; led = led-fresh _ c (configured c t); leased = leased-fresh c (configured c t) }
+  range = fresh-in-range c t;
+  messages = refl;
+  led = led-fresh _ c (configured c t);
+  leased = leased-fresh c (configured c t);
+}
 
 -- after any list of steps
 pub invariant : (c : Config) → T (configInRange c) → (ss : List Step) → Invariant (run (fresh c) ss)

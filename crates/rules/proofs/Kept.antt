@@ -9,10 +9,10 @@ use lib.Dec.{T, leb, ltb, eqb, leb→le, le→leb, ltb→lt, eqb→eq, eqb-refl}
 use Rattle.types.specs.declared.Config.{Config}
 use Rattle.types.specs.declared.Message.{Message}
 use Rattle.types.specs.declared.Facade.{Facade}
-use Rattle.rules.specs.Tests.{_and_, _or_, within, unless, all}
+use Rattle.rules.specs.Conditions.{_and_, _or_, within, unless, all}
 use Rattle.rules.specs.Parts.{parties, serverAt, stateAt, messageAt, offsetAt, noticeAt}
-use Rattle.rules.specs.Ranges.{configInRange, offsetInRange, serverInRange, noticeInRange, stateInRange, messageInRange, inRange, lastTime, lastInteraction, cable}
-use Rattle.rules.specs.Steps.{Action, isKnown, fieldsInRange, exists, stateAllows, ofPass, timeLeft, clockAllows, inTouch, ofNotice, isTimely, interactionLeft, roomLeft, effect, refusal}
+use Rattle.rules.specs.Ranges.{configInRange, offsetInRange, serverInRange, noticeInRange, stateInRange, messageInRange, inRange, lastTime, lastInteraction, mostWaiting}
+use Rattle.rules.specs.Steps.{Action, isKnown, fieldsInRange, exists, stateAllows, ofPass, timeLeft, clockAllows, inTouch, ofNotice, isCredible, interactionLeft, roomLeft, effect, refusal}
 use Rattle.rules.proofs.Laws.{and-l, and-r, and-both, or-elim, or-l, or-r, within-low, within-high, unless-ok, all-at, all-by}
 use Rattle.rules.proofs.Cable.{Waits}
 
@@ -58,7 +58,7 @@ pub record Ranged (f : Facade) : Type 0 where
   pub time : f .time ≤ lastTime
   pub next-low : 1 ≤ f .next
   pub next-high : f .next ≤ lastInteraction + 1
-  pub waiting : f .waiting ≤ cable
+  pub waiting : f .waiting ≤ mostWaiting
   pub offset : (p : ℕ) → p < parties (f .config) → T (offsetInRange (f .config) (f .time) (offsetAt f p))
   pub server : (k : ℕ) → k < f .config .servers → T (serverInRange (f .config) (f .time) (f .next) (serverAt f k))
   pub notice : (k j : ℕ) → k < f .config .servers → j < f .config .servers → j ≢ k → noticeAt f k j ≤ f .time
@@ -84,7 +84,7 @@ ranged f t =
       time = leb→le (f .time) lastTime (and-l _ _ t₂);
       next-low = within-low _ _ _ (and-l _ _ t₃);
       next-high = within-high _ _ _ (and-l _ _ t₃);
-      waiting = leb→le (f .waiting) cable (and-l _ _ t₄);
+      waiting = leb→le (f .waiting) mostWaiting (and-l _ _ t₄);
       offset = all-at _ _ (and-l _ _ t₅);
       server = all-at _ _ (and-l _ _ t₆);
       notice = λ k j h h′ ne. notice-of f k j (all-at (noticeInRange f k) _ (all-at (λ k. all (noticeInRange f k) (f .config .servers)) _ (and-l _ _ t₇) k h) j h′) ne;
@@ -98,7 +98,7 @@ in-range f v =
     and-both (configInRange (f .config)) _ (v .config)
     (and-both (leb (f .time) lastTime) _ (le→leb (f .time) lastTime (v .time))
     (and-both _ _ (and-both (leb 1 (f .next)) _ (le→leb 1 (f .next) (v .next-low)) (le→leb (f .next) (lastInteraction + 1) (v .next-high)))
-    (and-both (leb (f .waiting) cable) _ (le→leb (f .waiting) cable (v .waiting))
+    (and-both (leb (f .waiting) mostWaiting) _ (le→leb (f .waiting) mostWaiting (v .waiting))
     (and-both _ _ (all-by _ _ (v .offset))
     (and-both _ _ (all-by _ _ (v .server))
     (and-both _ _ (all-by _ _ (λ k h. all-by _ _ (λ j h′. to-notice f k j (v .notice k j h h′) (ℕ-discrete j k))))
@@ -116,9 +116,9 @@ pub record Kept (f : Facade) (x : Action) : Type 0 where
   pub time : T (ofPass (timeLeft f) x)
   pub clocks : T (ofPass (clockAllows f) x)
   pub touch : T (ofPass (inTouch f) x)
-  pub timely : T (ofNotice (isTimely f) x)
+  pub timely : T (ofNotice (isCredible f) x)
   pub fresh-interaction : T (interactionLeft f x)
-  pub room : (effect f x) .facade .waiting ≤ cable
+  pub room : (effect f x) .facade .waiting ≤ mostWaiting
 
 pub kept : (f : Facade) (x : Action) → refusal f x ≡ 0 → Kept f x
 unfolding refusal roomLeft
@@ -145,5 +145,5 @@ kept f x e =
       touch = t₁₀ .0;
       timely = t₁₁ .0;
       fresh-interaction = t₁₂ .0;
-      room = leb→le _ cable (t₁₃ .0);
+      room = leb→le _ mostWaiting (t₁₃ .0);
     }

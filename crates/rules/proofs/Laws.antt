@@ -10,7 +10,7 @@ use native.Mathlib.Decide.{ℕ-discrete, decLt}
 use lib.Dec.{T, leb, eqb, leb→le, eqb-refl}
 use lib.ListN.{length, getD, set, replicate, length-set}
 use lib.Seq.{getD-set-same, getD-set-other, set-out}
-use Rattle.rules.specs.Tests.{_and_, _or_, within, unless, all, filled}
+use Rattle.rules.specs.Conditions.{_and_, _or_, within, unless, all, filled}
 
 pub data Or (A B : Type 0) : Type 0 where
   inl : A → Or A B

@@ -19,14 +19,14 @@ use Rattle.types.specs.declared.Message.{Message}
 use Rattle.types.specs.declared.Facade.{Facade}
 use Rattle.types.specs.declared.Answer.{Answer}
 use Rattle.types.specs.declared.ServerAnswer.{ServerAnswer}
-use Rattle.rules.specs.Tests.{_and_, _or_, all, filled}
+use Rattle.rules.specs.Conditions.{_and_, _or_, all, filled}
 use Rattle.rules.specs.Clock.{plus, notNegative}
 use Rattle.rules.specs.Parts.{noServer, believes, leadsAt, serverAt, messageAt, offsetAt, clock, noticeAt, parties, writeAt, withLife, withMessages}
 use Rattle.rules.specs.Ranges.{offsetInRange, isServer}
 use Rattle.rules.specs.Messages.{without}
 use Rattle.rules.specs.Order.{rank, isFirst}
-use Rattle.rules.specs.Server.{leadDelay, leadsAfter, ledBy, noticed, returned, cleaned, offers, onDiscover, granted, dropped, grantable, grants, onRequest, onRenew, onWrite, answers, acknowledged, onWriteAck, serverHandles, serverReceives}
-use Rattle.rules.specs.Steps.{Action, pass, fail, return, notice, discover, request, renew, deliver, lose, cleanup, unknown, fresh, freshServer, exists, ofPass, clockAllows, inTouch, ofNotice, isTimely, rowNow, lapse, taken, handled, effect}
+use Rattle.rules.specs.Server.{leadDelay, leadsAfter, leadingWith, noticed, afterReturn, cleaned, offers, onDiscover, granted, dropped, grantable, grants, onRequest, onRenew, onWrite, matchesWrite, acknowledged, onWriteAck, serverHandles, serverReceives}
+use Rattle.rules.specs.Steps.{Action, pass, fail, return, notice, discover, request, renew, deliver, lose, cleanup, unknown, fresh, freshServer, exists, ofPass, clockAllows, inTouch, ofNotice, isCredible, rowNow, lapse, takenOut, handled, effect}
 use Rattle.rules.proofs.Laws.{and-l, and-r, or-elim, clash, not-eqb, cond-case, all-at, set-case, set-any, rep-ind, rep-true, rep-false, length-filled, filled-at}
 use Rattle.rules.proofs.Clocks.{plus-low, plus-high, plus-later, plus-mono}
 use Rattle.rules.proofs.Kept.{Configured, configured, Ranged, Kept}
@@ -55,8 +55,9 @@ rank-one n a j k lo hi =
 pub round : (c : Config) → Configured c → Orders c (rank (c .servers))
 unfolding isFirst
 round c ok = record {
-    one = λ a j k. rank-one (c .servers) a j k (ok .servers-low) (ok .servers-high);
-    first = λ a k b t j h lower. or-elim (not (believes b j)) _ (all-at _ (c .servers) (and-r (believes b k) _ t) j h) (λ x. x) (λ x. absurd (omega (arith, leb→le))) }
+  one = λ a j k. rank-one (c .servers) a j k (ok .servers-low) (ok .servers-high);
+  first = λ a k b t j h lower. or-elim (not (believes b j)) _ (all-at _ (c .servers) (and-r (believes b k) _ t) j h) (λ x. x) (λ x. absurd (omega (arith, leb→le)));
+}
 
 -- The invariant. It speaks of the part of a server that leading is about.
 
@@ -152,7 +153,7 @@ module _ (c : Config) (k r : ℕ) (s : Server) where
   core-body p q (Request a t) = cond-case SameCore (grantable c r (dropped c q s) a) _ _ (λ _. refl) (λ _. refl)
   core-body p q (Renew a e t) = cond-case SameCore (leadsAt s a and leb r e) _ _ (λ _. refl) (λ _. refl)
   core-body p q (Write a v) = refl
-  core-body p q (WriteAck a v) = cond-case SameCore (leadsAt s a and answers q v ((writeAt s a) .pending)) _ _
+  core-body p q (WriteAck a v) = cond-case SameCore (leadsAt s a and matchesWrite q v ((writeAt s a) .pending)) _ _
       (λ _. cond-case (λ x. coreOf x ≡ coreOf s) (all _ (c .servers)) _ _ (λ _. refl) (λ _. refl))
       (λ _. refl)
   core-body p q (Ack a e) = refl
@@ -173,8 +174,8 @@ module _ (f : Facade) (i : ℕ) (s : Server) (h : i < length (f .servers)) where
       → P (coreOf (getD (set (f .servers) i s) k noServer)) (coreOf (getD (set (f .servers) i s) j noServer))
   on-two P k j ne a b c =
       on-one (λ x. P x (coreOf (getD (set (f .servers) i s) j noServer))) k
-        (λ e. on-one (λ y. P (coreOf s) y) j (λ e′. absurd (ne (cc))) (λ _. a e))
-        (λ nk. on-one (λ y. P (coreOf (serverAt f k)) y) j (λ e. b e) (c nk))
+      (λ e. on-one (λ y. P (coreOf s) y) j (λ e′. absurd (ne (cc))) (λ _. a e))
+      (λ nk. on-one (λ y. P (coreOf (serverAt f k)) y) j (λ e. b e) (c nk))
 
 module _ (order : ℕ → ℕ → ℕ) (f : Facade) (g : Ranged f) (v : Led order f) where
   ok : Configured (f .config)
@@ -213,15 +214,16 @@ module _ (order : ℕ → ℕ → ℕ) (f : Facade) (g : Ranged f) (v : Led orde
         believed = λ k hk. on-one f i s p (λ x. length (x .believed) ≡ 4) k (λ _. w .believed) (λ _. v .believed k hk);
         leads = λ k hk. on-one f i s p (λ x. length (x .leads) ≡ 32) k (λ _. w .leads) (λ _. v .leads k hk);
         l1 = λ k j hk hj ne. on-two f i s p (L1 (f .config .silence) (getD ts (k * 4 + j) 0) j) k j ne
-          (λ e. rw e (w .l1-own j hj (rw e at ne)))
-          (λ e. let nk : k ≢ i = λ e′. ne (cc) in rw (w .others k j nk hj, e) (w .l1-about k hk nk))
-          (λ nk _. rw (w .others k j nk hj) (v .l1 k j hk hj ne));
+            (λ e. rw e (w .l1-own j hj (rw e at ne)))
+            (λ e. let nk : k ≢ i = λ e′. ne (cc) in rw (w .others k j nk hj, e) (w .l1-about k hk nk))
+            (λ nk _. rw (w .others k j nk hj) (v .l1 k j hk hj ne));
         l2 = λ k j hk hj ne. on-one f i s p (L2 (f .config .silence) (f .time) (getD ts (k * 4 + j) 0)) k
-          (λ e. rw e (w .l2-own j hj (rw e at ne)))
-          (λ nk. rw (w .others k j nk hj) (v .l2 k j hk hj ne));
+            (λ e. rw e (w .l2-own j hj (rw e at ne)))
+            (λ nk. rw (w .others k j nk hj) (v .l2 k j hk hj ne));
         l3 = λ j a hj ha. on-one f i s p (L3 (leadDelay (f .config)) (clock f j) a) j (λ e. rw e (w .l3-own a ha)) (λ _. v .l3 j a hj ha);
         l4 = λ j hj. on-one f i s p (L4 (f .config .skew)) j (λ _. w .l4-own) (λ _. v .l4 j hj);
-        l5 = λ k j a hk hj ha. on-one f i s p (L5 order k j a) k (λ e. rw e (w .l5-own j a hj ha)) (λ _. v .l5 k j a hk hj ha) }
+        l5 = λ k j a hk hj ha. on-one f i s p (L5 order k j a) k (λ e. rw e (w .l5-own j a hj ha)) (λ _. v .l5 k j a hk hj ha);
+      }
 
   -- fail: a dead server leads nothing and believes nothing
   pub led-fail : (i : ℕ) → Kept f (fail i) → Led order ((effect f (fail i)) .facade)
@@ -239,7 +241,8 @@ module _ (order : ℕ → ℕ → ℕ) (f : Facade) (g : Ranged f) (v : Led orde
         l2-own = λ j _ _ x. absurd x;
         l3-own = λ a _ x. absurd x;
         l4-own = λ x. absurd x;
-        l5-own = λ j a _ _ x. absurd x })
+        l5-own = λ j a _ _ x. absurd x;
+      })
 
   -- return: everyone is believed live, nothing is led, and the server's notice times are now
   row-length : (ts : List ℕ) (k t : ℕ) → length (rowNow ts k t) ≡ length ts
@@ -253,7 +256,7 @@ module _ (order : ℕ → ℕ → ℕ) (f : Facade) (g : Ranged f) (v : Led orde
       let ts₁ : List ℕ = set ts₀ (k * 4 + 1) t in
       let ts₂ : List ℕ = set ts₁ (k * 4 + 2) t in
       let now : (l : List ℕ) (i : ℕ) → length l ≡ 16 → i < 16 → (k * 4 + j ≢ i → getD l (k * 4 + j) 0 ≡ t) → getD (set l i t) (k * 4 + j) 0 ≡ t =
-            λ l i e b old. set-case (λ x. x ≡ t) l i t 0 (k * 4 + j) (omega arith) (λ _. refl) old in
+      λ l i e b old. set-case (λ x. x ≡ t) l i t 0 (k * 4 + j) (omega arith) (λ _. refl) old in
       now ts₂ (k * 4 + 3) (simp length-set h) (omega arith)
       (λ n₃. now ts₁ (k * 4 + 2) (simp length-set h) (omega arith)
       (λ n₂. now ts₀ (k * 4 + 1) (simp length-set h) (omega arith)
@@ -262,16 +265,20 @@ module _ (order : ℕ → ℕ → ℕ) (f : Facade) (g : Ranged f) (v : Led orde
   row-other : (ts : List ℕ) (i k j t : ℕ) → j < 4 → k ≢ i → getD (rowNow ts i t) (k * 4 + j) 0 ≡ getD ts (k * 4 + j) 0
   unfolding rowNow
   row-other ts i k j t hj ne =
-      rw (getD-set-other _ (i * 4 + 3) (k * 4 + j) t 0 (omega arith), getD-set-other _ (i * 4 + 2) (k * 4 + j) t 0 (omega arith),
-        getD-set-other _ (i * 4 + 1) (k * 4 + j) t 0 (omega arith), getD-set-other _ (i * 4) (k * 4 + j) t 0 (omega arith))
+      rw (
+        getD-set-other _ (i * 4 + 3) (k * 4 + j) t 0 (omega arith),
+        getD-set-other _ (i * 4 + 2) (k * 4 + j) t 0 (omega arith),
+        getD-set-other _ (i * 4 + 1) (k * 4 + j) t 0 (omega arith),
+        getD-set-other _ (i * 4) (k * 4 + j) t 0 (omega arith),
+      )
 
   pub led-return : (i : ℕ) → Kept f (return i) → Led order ((effect f (return i)) .facade)
-  unfolding effect exists returned
+  unfolding effect exists afterReturn
   led-return i w =
       let h : i < f .config .servers = ltb→lt i _ (w .names) in
       let own : (j : ℕ) → j < f .config .servers → getD (rowNow (f .notices) i (f .time)) (i * 4 + j) 0 ≡ f .time =
-            λ j hj. row-own (f .notices) i j (f .time) (v .notices) (omega (arith, ok .servers-high)) (omega (arith, ok .servers-high)) in
-      replaced i (withLife ((returned (clock f i) (serverAt f i)) .server) true (f .time)) (rowNow (f .notices) i (f .time)) (record {
+      λ j hj. row-own (f .notices) i j (f .time) (v .notices) (omega (arith, ok .servers-high)) (omega (arith, ok .servers-high)) in
+      replaced i (withLife ((afterReturn (clock f i) (serverAt f i)) .server) true (f .time)) (rowNow (f .notices) i (f .time)) (record {
         exists-i = h;
         believed = refl;
         leads = refl;
@@ -282,7 +289,8 @@ module _ (order : ℕ → ℕ → ℕ) (f : Facade) (g : Ranged f) (v : Led orde
         l2-own = λ j hj _ _. omega (arith, own j hj);
         l3-own = λ a _ _ t. absurd (rep-false 32 a t);
         l4-own = λ _. clock-low f g i (omega arith);
-        l5-own = λ j a _ _ _ t. absurd (rep-false 32 a t) })
+        l5-own = λ j a _ _ _ t. absurd (rep-false 32 a t);
+      })
 
   -- notice: the set changes only about j, and a dead notice about a live server is taken within ν of its change
   module _ (o : Orders (f .config) order) (k j says : ℕ) (w : Kept f (notice k j says)) where
@@ -310,11 +318,11 @@ module _ (order : ℕ → ℕ → ℕ) (f : Facade) (g : Ranged f) (v : Led orde
     said-dead false false n y t = t
 
     dead-soon : T ((serverAt f j) .alive) → T (not (eqb says 1)) → f .time < (serverAt f j) .changed + f .config .silence
-    unfolding ofNotice isTimely
+    unfolding ofNotice isCredible
     dead-soon al n =
         or-elim (cond (eqb says 1) ((serverAt f j) .alive) (not ((serverAt f j) .alive))) _ (w .timely)
-          (λ x. absurd (said-dead (eqb says 1) ((serverAt f j) .alive) n x al))
-          (λ x. ltb→lt (f .time) ((serverAt f j) .changed + f .config .silence) x)
+        (λ x. absurd (said-dead (eqb says 1) ((serverAt f j) .alive) n x al))
+        (λ x. omega (arith, ltb→lt))
 
     time-about : getD times-now (k * 4 + j) 0 ≡ f .time
     unfolding times-now
@@ -329,19 +337,19 @@ module _ (order : ℕ → ℕ → ℕ) (f : Facade) (g : Ranged f) (v : Led orde
     unfolding set-now
     own-l1 j′ h ne ak aj =
         set-case (λ x. T (not x) → getD times-now (k * 4 + j′) 0 < (serverAt f j′) .changed + f .config .silence) ((serverAt f k) .believed) j (eqb says 1) false j′
-          (omega (arith, v .believed k hk, hj, ok .servers-high))
-          (λ e n. rw e (omega (arith, time-about, dead-soon (rw e at aj) n)))
-          (λ ne′ n. omega (arith, time-else k j′ (λ e. ne′ (omega arith)), v .l1 k j′ hk h ne ak aj n))
+        (omega (arith, v .believed k hk, hj, ok .servers-high))
+        (λ e n. rw e (omega (arith, time-about, dead-soon (rw e at aj) n)))
+        (λ ne′ n. omega (arith, time-else k j′ (λ e. ne′ (omega arith)), v .l1 k j′ hk h ne ak aj n))
 
     own-l2 : (j′ : ℕ) → j′ < f .config .servers → j′ ≢ k → T ((serverAt f k) .alive) → Dec (j′ ≡ j) → f .time ≤ getD times-now (k * 4 + j′) 0 + f .config .silence
     own-l2 j′ h ne ak (yes e) = rw e (omega (arith, time-about))
     own-l2 j′ h ne ak (no ne′) = omega (arith, time-else k j′ (λ e. ne′ (omega arith)), v .l2 k j′ hk h ne ak)
 
     now : Server
-    now = ledBy (f .config) k (clock f k) (serverAt f k) set-now
+    now = leadingWith (f .config) k (clock f k) (serverAt f k) set-now
 
     leads-now : (a : ℕ) → a < f .config .addresses → T (leadsAt now a) → T (leadsAfter (f .config) k (clock f k) (serverAt f k) set-now a)
-    unfolding now ledBy
+    unfolding now leadingWith
     leads-now a h t =
         rw (filled-at (leadsAfter (f .config) k (clock f k) (serverAt f k) set-now) (f .config .addresses) ((serverAt f k) .leads) false a h (omega (arith, v .leads k hk, ok .addresses-high))) at t
 
@@ -355,19 +363,20 @@ module _ (order : ℕ → ℕ → ℕ) (f : Facade) (g : Ranged f) (v : Led orde
     waited a h ak t = or-elim (leadsAt (serverAt f k) a) _ (and-r _ _ (leads-now a h t)) (v .l3 k a hk h ak) (λ x. leb→le _ (clock f k) x)
 
     pub led-notice : Led order ((effect f (notice k j says)) .facade)
-    unfolding effect noticed ledBy set-now times-now now
+    unfolding effect noticed leadingWith set-now times-now now
     led-notice = replaced k now times-now (record {
-        exists-i = hk;
-        believed = length-set ((serverAt f k) .believed) j _ ∙ v .believed k hk;
-        leads = length-filled _ _ ((serverAt f k) .leads) ∙ v .leads k hk;
-        notices = length-set (f .notices) _ _ ∙ v .notices;
-        others = λ k′ j′ ne h. time-else k′ j′ (omega (arith, hj, h, ok .servers-high));
-        l1-own = own-l1;
-        l1-about = λ k′ h ne. v .l1 k′ k h hk (λ e. ne (sym e));
-        l2-own = λ j′ h ne ak. own-l2 j′ h ne ak (ℕ-discrete j′ j);
-        l3-own = waited;
-        l4-own = v .l4 k hk;
-        l5-own = λ j′ a h ha _ t. o .first a k set-now (first-now a ha t) j′ h })
+      exists-i = hk;
+      believed = length-set ((serverAt f k) .believed) j _ ∙ v .believed k hk;
+      leads = length-filled _ _ ((serverAt f k) .leads) ∙ v .leads k hk;
+      notices = length-set (f .notices) _ _ ∙ v .notices;
+      others = λ k′ j′ ne h. time-else k′ j′ (omega (arith, hj, h, ok .servers-high));
+      l1-own = own-l1;
+      l1-about = λ k′ h ne. v .l1 k′ k h hk (λ e. ne (sym e));
+      l2-own = λ j′ h ne ak. own-l2 j′ h ne ak (ℕ-discrete j′ j);
+      l3-own = waited;
+      l4-own = v .l4 k hk;
+      l5-own = λ j′ a h ha _ t. o .first a k set-now (first-now a ha t) j′ h;
+    })
 
   -- pass
   module _ (d p : ℕ) (e : ℤ) (w : Kept f (pass d p e)) where
@@ -375,28 +384,29 @@ module _ (order : ℕ → ℕ → ℕ) (f : Facade) (g : Ranged f) (v : Led orde
     unfolding ofPass clockAllows
     pass-clock j =
         set-any (λ x. clock f j ≤ plus (f .time + d) x) (f .offsets) p (offsetAt f p +ℤ e) (pos 0) j
-          (λ q. rw q (plus-mono (f .time) d (offsetAt f p) e (and-l _ _ (w .clocks))))
-          (plus-later (f .time) d (offsetAt f j))
+        (λ q. rw q (plus-mono (f .time) d (offsetAt f p) e (and-l _ _ (w .clocks))))
+        (plus-later (f .time) d (offsetAt f j))
 
     touch : (k j : ℕ) → k < f .config .servers → j < f .config .servers → j ≢ k → T ((serverAt f k) .alive) → f .time + d ≤ noticeAt f k j + f .config .silence
     unfolding ofPass inTouch
     touch k j hk hj ne ak =
         or-elim (not ((serverAt f k) .alive)) _ (all-at _ (f .config .servers) (w .touch) k hk)
-          (λ x. clash ((serverAt f k) .alive) ak x)
-          (λ x. or-elim (eqb j k) _ (all-at _ (f .config .servers) x j hj) (λ q. absurd (ne (eqb→eq j k q))) (λ q. leb→le (f .time + d) (noticeAt f k j + f .config .silence) q))
+        (λ x. clash ((serverAt f k) .alive) ak x)
+        (λ x. or-elim (eqb j k) _ (all-at _ (f .config .servers) x j hj) (λ q. absurd (ne (eqb→eq j k q))) (λ q. omega (arith, leb→le)))
 
     pub led-pass : Led order ((effect f (pass d p e)) .facade)
     unfolding effect lapse
     led-pass = record {
-        servers = v .servers;
-        notices = v .notices;
-        believed = v .believed;
-        leads = v .leads;
-        l1 = v .l1;
-        l2 = touch;
-        l3 = λ j a hj ha al le. omega (arith, v .l3 j a hj ha al le, pass-clock j);
-        l4 = v .l4;
-        l5 = v .l5 }
+      servers = v .servers;
+      notices = v .notices;
+      believed = v .believed;
+      leads = v .leads;
+      l1 = v .l1;
+      l2 = touch;
+      l3 = λ j a hj ha al le. omega (arith, v .l3 j a hj ha al le, pass-clock j);
+      l4 = v .l4;
+      l5 = v .l5;
+    }
 
   -- a delivery: what a server does with a message leaves the part that leading is about
   led-handled : (ms : List Message) (n : ℕ) (m : Message) → Led order ((handled (withMessages f ms n) m) .facade)
@@ -415,7 +425,7 @@ module _ (order : ℕ → ℕ → ℕ) (f : Facade) (g : Ranged f) (v : Led orde
   led-kept o (discover i) w = v
   led-kept o (request i t) w = v
   led-kept o (renew i t) w = v
-  led-kept o (deliver p keep) w = unfold taken in cond-case (λ h. Led order ((handled h (messageAt f p)) .facade)) (eqb keep 0) (without f p) f
+  led-kept o (deliver p keep) w = unfold takenOut in cond-case (λ h. Led order ((handled h (messageAt f p)) .facade)) (eqb keep 0) (without f p) f
       (λ _. led-handled _ _ (messageAt f p)) (λ _. led-handled (f .messages) (f .waiting) (messageAt f p))
   led-kept o (lose p) w = v
   led-kept o (cleanup k) w = unfold exists cleaned in same-core k _ (ltb→lt k _ (w .names)) refl
@@ -425,15 +435,16 @@ module _ (order : ℕ → ℕ → ℕ) (f : Facade) (g : Ranged f) (v : Led orde
 pub led-fresh : (order : ℕ → ℕ → ℕ) (c : Config) → Configured c → Led order (fresh c)
 unfolding fresh
 led-fresh order c ok = record {
-    servers = refl;
-    notices = refl;
-    believed = λ k h. of-fresh (λ s. length (s .believed) ≡ 4) k h refl;
-    leads = λ k h. of-fresh (λ s. length (s .leads) ≡ 32) k h refl;
-    l1 = λ k j _ _ _ _ _ _. omega (arith, rep-ind (λ x. x ≤ 0) 16 0 0 (k * 4 + j) (omega arith) (omega arith), ok .silence-low);
-    l2 = λ k j _ _ _ _. omega arith;
-    l3 = λ j a h _. of-fresh (λ s. L3 (leadDelay c) (clock (fresh c) j) a (coreOf s)) j h (λ _ t. absurd (rep-false 32 a t));
-    l4 = λ j h. of-fresh (λ s. L4 (c .skew) (coreOf s)) j h (λ _. omega arith);
-    l5 = λ k j a h _ _. of-fresh (λ s. L5 order k j a (coreOf s)) k h (λ _ t. absurd (rep-false 32 a t)) }
+  servers = refl;
+  notices = refl;
+  believed = λ k h. of-fresh (λ s. length (s .believed) ≡ 4) k h refl;
+  leads = λ k h. of-fresh (λ s. length (s .leads) ≡ 32) k h refl;
+  l1 = λ k j _ _ _ _ _ _. omega (arith, rep-ind (λ x. x ≤ 0) 16 0 0 (k * 4 + j) (omega arith) (omega arith), ok .silence-low);
+  l2 = λ k j _ _ _ _. omega arith;
+  l3 = λ j a h _. of-fresh (λ s. L3 (leadDelay c) (clock (fresh c) j) a (coreOf s)) j h (λ _ t. absurd (rep-false 32 a t));
+  l4 = λ j h. of-fresh (λ s. L4 (c .skew) (coreOf s)) j h (λ _. omega arith);
+  l5 = λ k j a h _ _. of-fresh (λ s. L5 order k j a (coreOf s)) k h (λ _ t. absurd (rep-false 32 a t));
+}
   where
     of-fresh : (P : Server → Type 0) (k : ℕ) → k < c .servers → P freshServer → P (getD (replicate 4 freshServer) k noServer)
     of-fresh P k h p = rw (getD-replicate 4 k freshServer noServer (omega (arith, ok .servers-high))) p

@@ -22,7 +22,7 @@ use Rattle.types.specs.declared.Body.the-variants.{Empty, Discover, Offer, Requ
 use Rattle.types.specs.declared.Message.{Message}
 use Rattle.types.specs.declared.Facade.{Facade}
 use Rattle.rules.specs.Clock.{plus}
-use Rattle.rules.specs.Parts.{noServer, noClient, party, leadsAt, lentAt, recordAt, writeAt}
+use Rattle.rules.specs.Parts.{noServer, noClient, clientParty, leadsAt, lentAt, recordAt, writeAt}
 use Rattle.rules.proofs.Laws.{set-case}
 use Rattle.rules.proofs.Cable.{Waits}
 
@@ -62,10 +62,10 @@ Says c from to Empty i a e = ⊥
 Says c from to Discover i a e = ⊥
 Says c from to (Offer a′) i a e = ⊥
 Says c from to (Request a′ t) i a e = ⊥
-Says c from to (Renew a′ e′ t) i a e = (from ≡ party c i) × (a′ ≡ a) × (e′ ≡ e)
+Says c from to (Renew a′ e′ t) i a e = (from ≡ clientParty c i) × (a′ ≡ a) × (e′ ≡ e)
 Says c from to (Write a′ v) i a e = ⊥
 Says c from to (WriteAck a′ v) i a e = ⊥
-Says c from to (Ack a′ e′) i a e = (to ≡ party c i) × (a′ ≡ a) × (e′ ≡ e)
+Says c from to (Ack a′ e′) i a e = (to ≡ clientParty c i) × (a′ ≡ a) × (e′ ≡ e)
 
 abbrev pub Promises : Config → Message → ℕ → ℕ → ℕ → Type 0
 Promises c m i a e = Says c (m .sender) (m .receiver) (m .body) i a e
@@ -102,7 +102,7 @@ pub record Leased (w : World) : Type 0 where
   pub acks : (m : Message) → w .out m → BodyOk w (m .sender) (m .body)
   -- of two promises of one address to different clients, one is over on every clock
   pub pair : (i a e i′ e′ : ℕ) → a < w .config .addresses → Claim w i a e → Claim w i′ a e′ → i ≢ i′ → min e e′ + w .config .skew < w .time
-  pub above : (i a e q : ℕ) → i < w .config .clients → held w i ≡ Holding a e q → clk w (party (w .config) i) < e
+  pub above : (i a e q : ℕ) → i < w .config .clients → held w i ≡ Holding a e q → clk w (clientParty (w .config) i) < e
 
 -- What time and the servers may do to what is covered.
 
@@ -119,8 +119,9 @@ module _ (w w′ : World) (x : Grows w w′) where
 
   pub cov-grows : (a e : ℕ) → a < w .config .addresses → Cov w a e → Cov w′ a e
   cov-grows a e ha c = record {
-      led = λ j h al le. x .leads j a e (here j h) ha al le c;
-      every = λ j h. omega (arith, c .every j (here j h), x .records j a, x .later, ap (λ c. c .skew) (x .same), ap (λ c. c .mclt) (x .same)) }
+    led = λ j h al le. x .leads j a e (here j h) ha al le c;
+    every = λ j h. omega (arith, c .every j (here j h), x .records j a, x .later, ap (λ c. c .skew) (x .same), ap (λ c. c .mclt) (x .same));
+  }
 
   pub count-grows : (a : ℕ) (acked : List Bool) (o : Pending) → CountOk w a acked o → CountOk w′ a acked o
   count-grows a acked Closed p = tt
@@ -148,16 +149,17 @@ module _ (w : World) (v : Leased w) (t : ℕ) (os : List ℤ) (xs : List Client)
   pub plain :
       ((i a e : ℕ) → Claim (passedBy w t os xs out) i a e → Claim w i a e)
       → ((m : Message) → out m → BodyOk w (m .sender) (m .body))
-      → ((i a e q : ℕ) → i < w .config .clients → (getD xs i noClient) .state ≡ Holding a e q → plus t (getD os (party (w .config) i) (pos 0)) < e)
+      → ((i a e q : ℕ) → i < w .config .clients → (getD xs i noClient) .state ≡ Holding a e q → plus t (getD os (clientParty (w .config) i) (pos 0)) < e)
       → Leased (passedBy w t os xs out)
   plain sub mok abv = record {
-      rows = v .rows;
-      claims = λ i a e ha c. cov-grows w _ plain-grows a e ha (v .claims i a e ha (sub i a e c));
-      lents = λ k a hk ha. cov-grows w _ plain-grows a _ ha (v .lents k a hk ha);
-      opens = λ k a hk ha. count-grows w _ plain-grows a _ ((writeAt (srv w k) a) .pending) (v .opens k a hk ha);
-      acks = λ m p. body-grows w _ plain-grows (m .sender) (m .body) (mok m p);
-      pair = λ i a e i′ e′ ha c c′ ne. omega (arith, v .pair i a e i′ e′ ha (sub i a e c) (sub i′ a e′ c′) ne);
-      above = abv }
+    rows = v .rows;
+    claims = λ i a e ha c. cov-grows w _ plain-grows a e ha (v .claims i a e ha (sub i a e c));
+    lents = λ k a hk ha. cov-grows w _ plain-grows a _ ha (v .lents k a hk ha);
+    opens = λ k a hk ha. count-grows w _ plain-grows a _ ((writeAt (srv w k) a) .pending) (v .opens k a hk ha);
+    acks = λ m p. body-grows w _ plain-grows (m .sender) (m .body) (mok m p);
+    pair = λ i a e i′ e′ ha c c′ ne. omega (arith, v .pair i a e i′ e′ ha (sub i a e c) (sub i′ a e′ c′) ne);
+    above = abv;
+  }
 
 -- A step that replaces server k by s.
 
@@ -174,10 +176,12 @@ pub record Raised (w : World) (k : ℕ) (s : Server) : Type 0 where
 module _ (w : World) (v : Leased w) (k : ℕ) (s : Server) (out : Message → Type 0) (r : Raised w k s) where
   pub served-grows : Grows w (servedBy w k s out)
   served-grows = record {
-      same = refl; later = le-refl _;
-      records = λ j a. set-case (λ x. recordAt (srv w j) a ≤ recordAt x a) (w .servers) k s noServer j (r .place) (λ q. rw q (r .up a)) (λ _. le-refl _);
-      leads = λ j a e hj ha. set-case (λ x. T (x .alive) → T (leadsAt x a) → Cov w a e → e ≤ recordAt x a) (w .servers) k s noServer j (r .place)
-        (λ _. r .lead a e ha) (λ _ al le c. c .led j hj al le) }
+    same = refl;
+    later = le-refl _;
+    records = λ j a. set-case (λ x. recordAt (srv w j) a ≤ recordAt x a) (w .servers) k s noServer j (r .place) (λ q. rw q (r .up a)) (λ _. le-refl _);
+    leads = λ j a e hj ha. set-case (λ x. T (x .alive) → T (leadsAt x a) → Cov w a e → e ≤ recordAt x a) (w .servers) k s noServer j (r .place)
+        (λ _. r .lead a e ha) (λ _ al le c. c .led j hj al le);
+  }
 
   -- with the claims of the new world given
   pub served :
@@ -188,15 +192,16 @@ module _ (w : World) (v : Leased w) (k : ℕ) (s : Server) (out : Message → Ty
       → ((i a e i′ e′ : ℕ) → a < w .config .addresses → Claim (servedBy w k s out) i a e → Claim (servedBy w k s out) i′ a e′ → i ≢ i′ → min e e′ + w .config .skew < w .time)
       → Leased (servedBy w k s out)
   served lnt opn mok clm pr = record {
-      rows = λ j hj. set-case (λ x. length (x .potlease) ≡ 32) (w .servers) k s noServer j (r .place) (λ _. r .row) (λ _. v .rows j hj);
-      claims = clm;
-      lents = λ j a hj ha. set-case (λ x. Cov (servedBy w k s out) a (lentAt x a)) (w .servers) k s noServer j (r .place)
+    rows = λ j hj. set-case (λ x. length (x .potlease) ≡ 32) (w .servers) k s noServer j (r .place) (λ _. r .row) (λ _. v .rows j hj);
+    claims = clm;
+    lents = λ j a hj ha. set-case (λ x. Cov (servedBy w k s out) a (lentAt x a)) (w .servers) k s noServer j (r .place)
         (λ _. lnt a ha) (λ _. cov-grows w _ served-grows a _ ha (v .lents j a hj ha));
-      opens = λ j a hj ha. set-case (λ x. OpenOk (servedBy w k s out) a (writeAt x a)) (w .servers) k s noServer j (r .place)
+    opens = λ j a hj ha. set-case (λ x. OpenOk (servedBy w k s out) a (writeAt x a)) (w .servers) k s noServer j (r .place)
         (λ _. opn a ha) (λ _. count-grows w _ served-grows a _ ((writeAt (srv w j) a) .pending) (v .opens j a hj ha));
-      acks = mok;
-      pair = pr;
-      above = v .above }
+    acks = mok;
+    pair = pr;
+    above = v .above;
+  }
 
   -- no new promise
   old-claim : ((m : Message) → out m → (i a e : ℕ) → Promises (w .config) m i a e → Claim w i a e) → (i a e : ℕ) → Claim (servedBy w k s out) i a e → Claim w i a e
@@ -210,8 +215,8 @@ module _ (w : World) (v : Leased w) (k : ℕ) (s : Server) (out : Message → Ty
       → ((m : Message) → out m → (i a e : ℕ) → Promises (w .config) m i a e → Claim w i a e)
       → Leased (servedBy w k s out)
   quiet lnt opn mok sub = served lnt opn mok
-    (λ i a e ha c. cov-grows w _ served-grows a e ha (v .claims i a e ha (old-claim sub i a e c)))
-    (λ i a e i′ e′ ha c c′ ne. v .pair i a e i′ e′ ha (old-claim sub i a e c) (old-claim sub i′ a e′ c′) ne)
+      (λ i a e ha c. cov-grows w _ served-grows a e ha (v .claims i a e ha (old-claim sub i a e c)))
+      (λ i a e i′ e′ ha c c′ ne. v .pair i a e i′ e′ ha (old-claim sub i a e c) (old-claim sub i′ a e′ c′) ne)
 
   -- lent ends and open writes as they were, and no new message that matters
   pub still : k < w .config .servers
@@ -220,7 +225,7 @@ module _ (w : World) (v : Leased w) (k : ℕ) (s : Server) (out : Message → Ty
       → ((m : Message) → out m → (i a e : ℕ) → Promises (w .config) m i a e → Claim w i a e)
       → Leased (servedBy w k s out)
   still hk le we mok sub = quiet
-    (λ a ha. rw (le a) (cov-grows w _ served-grows a _ ha (v .lents k a hk ha)))
-    (λ a ha. rw (we a) (count-grows w _ served-grows a _ ((writeAt (srv w k) a) .pending) (v .opens k a hk ha)))
-    (λ m p. body-grows w _ served-grows (m .sender) (m .body) (mok m p))
-    sub
+      (λ a ha. rw (le a) (cov-grows w _ served-grows a _ ha (v .lents k a hk ha)))
+      (λ a ha. rw (we a) (count-grows w _ served-grows a _ ((writeAt (srv w k) a) .pending) (v .opens k a hk ha)))
+      (λ m p. body-grows w _ served-grows (m .sender) (m .body) (mok m p))
+      sub

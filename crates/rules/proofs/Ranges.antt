@@ -30,13 +30,13 @@ use Rattle.types.specs.declared.Step.{Step}
 use Rattle.types.specs.declared.Answer.{Answer}
 use Rattle.types.specs.declared.ServerAnswer.{ServerAnswer}
 use Rattle.types.specs.declared.ClientAnswer.{ClientAnswer}
-use Rattle.rules.specs.Tests.{_and_, unless, all, lowest, filled}
-use Rattle.rules.specs.Parts.{noServer, noReservation, noWrite, noClient, noMessage, reservedAt, lentAt, recordAt, writeAt, leadsAt, withLife, withLeading, withReserved, withRecord, withWrite, message, party, parties, serverAt, stateAt, messageAt, offsetAt, clock, withServer, withNotices, withClients, withClient, withTime, withNext}
-use Rattle.rules.specs.Ranges.{configInRange, interactionInRange, offsetInRange, reservationInRange, writeInRange, placeInRange, serverInRange, stateInRange, isServer, isClient, bodyInRange, messageInRange, inRange, endInRange, readingInRange, lastTime, lastInteraction, cable}
+use Rattle.rules.specs.Conditions.{_and_, unless, all, lowest, filled}
+use Rattle.rules.specs.Parts.{noServer, noReservation, noWrite, noClient, noMessage, reservedAt, lentAt, recordAt, writeAt, leadsAt, withLife, withLeading, withReserved, withRecord, withWrite, message, clientParty, parties, serverAt, stateAt, messageAt, offsetAt, clock, withServer, withNotices, withClients, withClient, withTime, withNext}
+use Rattle.rules.specs.Ranges.{configInRange, interactionInRange, offsetInRange, reservationInRange, writeInRange, addressInRange, serverInRange, stateInRange, isServer, isClient, bodyInRange, messageInRange, inRange, endInRange, readingInRange, lastTime, lastInteraction, mostWaiting}
 use Rattle.rules.specs.Messages.{nothing, post, sendAll, without}
-use Rattle.rules.specs.Server.{answer, free, closed, opened, leadRecord, leadsAfter, recordAfter, ledBy, noticed, returned, unlessOld, cleaned, offerable, offers, onDiscover, granted, unlessOf, dropped, grantable, grants, onRequest, onRenew, onWrite, answers, acknowledged, onWriteAck, serverHandles, serverReceives}
-use Rattle.rules.specs.Client.{reply, broadcast, lapsed, discovers, requests, renews, asksWith, onOffer, expects, onAck, clientHandles}
-use Rattle.rules.specs.Steps.{freshServer, fresh, Action, pass, fail, return, notice, discover, request, renew, deliver, lose, cleanup, unknown, action, fieldsInRange, exists, ofPass, timeLeft, clockAllows, interactionLeft, accepted, serverActs, clientActs, moved, lapse, rowNow, taken, handled, effect, refusal, answerTo, step, run}
+use Rattle.rules.specs.Server.{answer, closed, opened, leadRecord, leadsAfter, recordAfter, leadingWith, noticed, afterReturn, freedIfOld, cleaned, offerable, offers, onDiscover, granted, freedIfOf, dropped, grantable, grants, onRequest, onRenew, onWrite, matchesWrite, acknowledged, onWriteAck, serverHandles, serverReceives}
+use Rattle.rules.specs.Client.{isHolding, reply, broadcast, lapsed, discovers, requests, renews, asksWith, onOffer, expects, onAck, clientHandles}
+use Rattle.rules.specs.Steps.{freshServer, fresh, Action, pass, fail, return, notice, discover, request, renew, deliver, lose, cleanup, unknown, action, fieldsInRange, exists, ofPass, timeLeft, clockAllows, interactionLeft, accepted, serverActs, clientActs, moved, lapse, rowNow, takenOut, handled, effect, refusal, answerTo, step, run}
 use Rattle.rules.proofs.Laws.{Or, inl, inr, and-l, and-r, and-both, cond-case, all-at, all-by, set-any, rep-ind, filled-any}
 use Rattle.rules.proofs.Clocks.{plus-high, not-negative-later, not-negative-sum}
 use Rattle.rules.proofs.Cable.{Waits, Posted, ToServer, length-sent, waits-sent, length-removed, waits-removed, posted-nothing, posted-one, posted-each, posted-others}
@@ -94,9 +94,9 @@ record Stored (c : Config) (t n : ℕ) (s : Server) : Type 0 where
   writes : Writes c n (s .writes)
 
 stored : (c : Config) (t n : ℕ) (s : Server) → T (serverInRange c t n s) → Stored c t n s
-unfolding serverInRange placeInRange
+unfolding serverInRange addressInRange
 stored c t n s x =
-    let y = all-at (placeInRange n s) (c .addresses) (and-r _ _ (and-r _ _ x)) in
+    let y = all-at (addressInRange n s) (c .addresses) (and-r _ _ (and-r _ _ x)) in
     record {
       changed = and-l _ _ x;
       returned = and-l _ _ (and-r _ _ x);
@@ -107,9 +107,9 @@ stored c t n s x =
     }
 
 server-in-range : (c : Config) (t n : ℕ) (s : Server) → Stored c t n s → T (serverInRange c t n s)
-unfolding serverInRange placeInRange
+unfolding serverInRange addressInRange
 server-in-range c t n s v =
-    and-both _ _ (v .changed) (and-both _ _ (v .returned) (all-by (placeInRange n s) (c .addresses) (λ a h.
+    and-both _ _ (v .changed) (and-both _ _ (v .returned) (all-by (addressInRange n s) (c .addresses) (λ a h.
     and-both _ _ (v .reserved a h) (and-both _ _ (v .lent a h) (and-both _ _ (v .records a h) (v .writes a h))))))
 
 server-later : (c : Config) (t t′ n n′ : ℕ) (s : Server) → t ≤ t′ → n ≤ n′ → T (serverInRange c t n s) → T (serverInRange c t′ n′ s)
@@ -146,12 +146,12 @@ module _ (c : Config) (t n : ℕ) where
 
   -- nothing reserved, lent or open: a server that is fresh or has returned, and with w = 0 one that does not exist
   cleared : (w x r : ℕ) (al : Bool) (b l : List Bool) (ps : List ℕ) → T (leb x t) → T (readingInRange r) → Ends c ps
-      → Stored c t n (record { alive = al; changed = x; returned = r; believed = b; leads = l; reserved = replicate w free; lent = replicate w 0; potlease = ps; writes = replicate w closed })
+      → Stored c t n (record { alive = al; changed = x; returned = r; believed = b; leads = l; reserved = replicate w noReservation; lent = replicate w 0; potlease = ps; writes = replicate w closed })
   unfolding reservationInRange writeInRange
   cleared w x r al b l ps h h′ hp = record {
     changed = h;
     returned = h′;
-    reserved = λ a _. rep-ind (λ y. T (reservationInRange n (y .state))) w free noReservation a tt tt;
+    reserved = λ a _. rep-ind (λ y. T (reservationInRange n (y .state))) w noReservation noReservation a tt tt;
     lent = λ a _. rep-ind (λ y. T (endInRange y)) w 0 0 a tt tt;
     records = hp;
     writes = λ a _. rep-ind (λ y. T (writeInRange n (y .pending))) w closed noWrite a tt tt;
@@ -177,12 +177,12 @@ module _ (c : Config) (t n : ℕ) where
     fewer : (g : Reserved → Reserved) (b : ℕ → ℕ → Bool) → g Free ≡ Free → ((q r : ℕ) → g (Taken q r) ≡ cond (b q r) Free (Taken q r))
         → Stored c t n (withReserved s (filled (λ a. record { state = g (reservedAt s a) }) (c .addresses) (s .reserved)))
     unfolding reservationInRange
-    fewer g b free taken = with-reserved _ (λ a h. filled-any (λ x. T (reservationInRange n (x .state))) _ (c .addresses) (s .reserved) noReservation a
+    fewer g b at-free at-taken = with-reserved _ (λ a h. filled-any (λ x. T (reservationInRange n (x .state))) _ (c .addresses) (s .reserved) noReservation a
         (λ _. go (reservedAt s a) (v .reserved a h)) (v .reserved a h))
       where
         go : (x : Reserved) → T (reservationInRange n x) → T (reservationInRange n (g x))
-        go Free h = rw free h
-        go (Taken q r) h = rw (taken q r) (cond-case (λ x. T (reservationInRange n x)) (b q r) Free (Taken q r) (λ _. tt) (λ _. h))
+        go Free h = rw at-free h
+        go (Taken q r) h = rw (at-taken q r) (cond-case (λ x. T (reservationInRange n x)) (b q r) Free (Taken q r) (λ _. tt) (λ _. h))
 
     silent : (x : ℕ) → ServerFits c t n (answer s x nothing)
     silent x = record { server = v; sends = λ m y. posted-nothing m y }
@@ -190,7 +190,7 @@ module _ (c : Config) (t n : ℕ) where
   -- server k has the clock reading r
   module _ (g : Configured c) (k r : ℕ) (hk : T (isServer c k)) (hr : T (readingInRange r)) where
     noticed-fits : (s : Server) → Stored c t n s → (j says : ℕ) → ServerFits c t n (noticed c k r s j says)
-    unfolding noticed ledBy recordAfter
+    unfolding noticed leadingWith recordAfter
     noticed-fits s v j says =
         let b : List Bool = set (s .believed) j (eqb says 1) in
         silent _ (with-records s v _ _ _ (λ a h. let old = v .records a h in
@@ -198,8 +198,8 @@ module _ (c : Config) (t n : ℕ) where
         (λ _. cond-case (λ x. T (endInRange x)) (leadsAfter c k r s b a and not (leadsAt s a)) (max (recordAt s a) (leadRecord c r)) (recordAt s a) (λ _. omega bounds) (λ _. old)) old)) 0
 
     cleaned-fits : (s : Server) → Stored c t n s → ServerFits c t n (cleaned c r s)
-    unfolding cleaned unlessOld
-    cleaned-fits s v = silent _ (fewer s v (unlessOld c r) (λ q r′. ltb (r′ + c .hold) r) refl (λ q r′. refl)) 0
+    unfolding cleaned freedIfOld
+    cleaned-fits s v = silent _ (fewer s v (freedIfOld c r) (λ q r′. ltb (r′ + c .hold) r) refl (λ q r′. refl)) 0
 
     -- a message in interaction q
     module _ (q : ℕ) (u : T (interactionInRange n q)) where
@@ -224,7 +224,7 @@ module _ (c : Config) (t n : ℕ) where
               (and-both _ _ hk (and-both _ _ (lt→ltb (x .to) (c .servers) (x .below)) (and-both _ _ ha high))))
 
       handles-fit : (s : Server) → Stored c t n s → (p : ℕ) (b : Body) → T (bodyInRange c p k b) → ServerFits c t n (serverHandles c k r s p q b)
-      unfolding serverHandles onDiscover offers onRequest grants dropped unlessOf onRenew onWrite onWriteAck acknowledged reservationInRange writeInRange bodyInRange
+      unfolding serverHandles onDiscover offers onRequest grants dropped freedIfOf onRenew onWrite onWriteAck acknowledged reservationInRange writeInRange bodyInRange
       handles-fit s v p Discover x =
           let a : ℕ = lowest (offerable c r s) 0 (c .addresses) in
           cond-case (ServerFits c t n) (ltb a (c .addresses)) _ _
@@ -235,7 +235,7 @@ module _ (c : Config) (t n : ℕ) where
           (λ _. silent s v 1)
       handles-fit s v p (Request a w) x =
           let y = and-r _ _ (and-r _ _ x) in
-          let v′ : Stored c t n (dropped c q s) = fewer s v (unlessOf q) (λ q′ r′. eqb q′ q) refl (λ q′ r′. refl) in
+          let v′ : Stored c t n (dropped c q s) = fewer s v (freedIfOf q) (λ q′ r′. eqb q′ q) refl (λ q′ r′. refl) in
           cond-case (ServerFits c t n) (grantable c r (dropped c q s) a) _ _
           (λ _. granted-fits (dropped c q s) v′ p (and-l _ _ x) a w (r + c .mclt) (and-l _ _ y) (and-r _ _ y) (omega bounds)) (λ _. silent (dropped c q s) v′ 1)
       handles-fit s v p (Renew a e w) x =
@@ -247,7 +247,7 @@ module _ (c : Config) (t n : ℕ) where
           record { server = with-record s v a (max (recordAt s a) e) (omega bounds); sends = sends-one p (WriteAck a e) (and-both _ _ hk (and-both _ _ (and-l _ _ x) y)) }
       handles-fit s v p (WriteAck a e) x =
           let y = and-r _ _ (and-r _ _ x) in let l = v .lent a (ltb→lt _ _ (and-l _ _ y)) in let he : T (endInRange e) = and-r _ _ y in
-          cond-case (ServerFits c t n) (leadsAt s a and answers q e ((writeAt s a) .pending)) _ _
+          cond-case (ServerFits c t n) (leadsAt s a and matchesWrite q e ((writeAt s a) .pending)) _ _
           (λ _. silent _ (cond-case (Stored c t n) (all (λ j. getD (set ((writeAt s a) .acked) p true) j false) (c .servers)) _ _
           (λ _. with-write s v a (max (lentAt s a) e) closed (omega bounds) tt) (λ _. with-write s v a (lentAt s a) (opened q e _) l (and-both _ _ u he))) 0)
           (λ _. silent s v 1)
@@ -290,20 +290,21 @@ module _ (c : Config) (n i : ℕ) where
 
   -- its own steps
   module _ (g : Configured c) (hi : T (ltb i (c .clients))) where
-    is-client : T (isClient c (party c i))
+    is-client : T (isClient c (clientParty c i))
     unfolding isClient
-    is-client = and-both (leb (c .servers) (party c i)) _ (omega bounds) (lt→ltb (party c i) (parties c) (omega bounds))
+    is-client = and-both (leb (c .servers) (clientParty c i)) _ (omega bounds) (lt→ltb (clientParty c i) (parties c) (omega bounds))
 
     broadcasts : (x : State) (q : ℕ) (b : Body) → T (stateInRange c n x) → T (interactionInRange n q)
-        → ((j : ℕ) → T (isServer c j) → T (bodyInRange c (party c i) j b)) → ClientFits c n i (reply x 0 (broadcast c i q b))
+        → ((j : ℕ) → T (isServer c j) → T (bodyInRange c (clientParty c i) j b)) → ClientFits c n i (reply x 0 (broadcast c i q b))
     broadcasts x q b h u body = record { state = λ _. h; sends = λ m y. go m (posted-each _ (c .servers) (g .servers-high) m y) }
       where
-        go : (m : Message) → ToServer (λ j. message (party c i) j q b) (c .servers) m → T (messageInRange c n m)
-        go m y = rw (← y .is) (in-message c n (party c i) (y .to) q b u (body (y .to) (lt→ltb (y .to) (c .servers) (y .below))))
+        go : (m : Message) → ToServer (λ j. message (clientParty c i) j q b) (c .servers) m → T (messageInRange c n m)
+        go m y = rw (← y .is) (in-message c n (clientParty c i) (y .to) q b u (body (y .to) (lt→ltb (y .to) (c .servers) (y .below))))
 
-    discovers-fit : (q : ℕ) → T (interactionInRange n q) → ClientFits c n i (discovers c i q)
+    discovers-fit : (x : State) (q : ℕ) → T (stateInRange c n x) → T (interactionInRange n q) → ClientFits c n i (discovers c i x q)
     unfolding discovers stateInRange bodyInRange
-    discovers-fit q u = broadcasts (Asking q) q Discover u u (λ j h. and-both _ _ is-client h)
+    discovers-fit x q h u = cond-case (ClientFits c n i) (isHolding x) _ _
+        (λ _. replies x 1 (λ _. h)) (λ _. broadcasts (Asking q) q Discover u u (λ j b. and-both _ _ is-client b))
 
     requests-fit : (x : State) (t : ℕ) → T (stateInRange c n x) → T (endInRange t) → ClientFits c n i (requests c i x t)
     unfolding requests stateInRange bodyInRange
@@ -329,12 +330,12 @@ module _ (c : Config) (n i : ℕ) where
 
 -- a step that was taken, with all in range
 record Good (y : Answer) : Type 0 where
-  taken : y .refusal ≡ 0
+  accepted : y .refusal ≡ 0
   range : Ranged (y .facade)
   full : length (y .facade .messages) ≡ 128
 
 still : (g : Facade) → Ranged g → length (g .messages) ≡ 128 → Good (accepted g 0)
-still g v l = record { taken = refl; range = v; full = l }
+still g v l = record { accepted = refl; range = v; full = l }
 
 -- the facade with other servers, notice times, clients and messages
 abbrev replaced : Facade → List Server → List ℕ → List Client → List Message → ℕ → Facade
@@ -377,7 +378,7 @@ module _ (f : Facade) (v : Ranged f) where
       → ((k : ℕ) → k < f .config .servers → T (serverInRange (f .config) (f .time) (f .next) (getD ss k noServer)))
       → Heard f ts
       → ((i : ℕ) → i < f .config .clients → T (stateInRange (f .config) (f .next) ((getD xs i noClient) .state)))
-      → w ≤ cable → ((m : Message) → Waits (replaced f ss ts xs ms w) m → T (messageInRange (f .config) (f .next) m)) → Ranged (replaced f ss ts xs ms w)
+      → w ≤ mostWaiting → ((m : Message) → Waits (replaced f ss ts xs ms w) m → T (messageInRange (f .config) (f .next) m)) → Ranged (replaced f ss ts xs ms w)
   parts ss ts xs ms w ok heard states room sent =
       record { config = v .config; time = v .time; next-low = v .next-low; next-high = v .next-high; waiting = room; offset = v .offset; server = ok; notice = heard; client = states; message = sent }
 
@@ -390,9 +391,9 @@ module _ (f : Facade) (v : Ranged f) where
   with-clients xs clients = parts (f .servers) (f .notices) xs (f .messages) (f .waiting) (v .server) (v .notice)
       clients (v .waiting) (λ m y. v .message m (record { at = y .at; below = y .below; is = y .is }))
 
-  good-sent : length (f .messages) ≡ 128 → (o : Outbox) (x : ℕ) → f .waiting + o .count ≤ cable → Sends (f .config) (f .next) o → Good (accepted (sendAll f o) x)
+  good-sent : length (f .messages) ≡ 128 → (o : Outbox) (x : ℕ) → f .waiting + o .count ≤ mostWaiting → Sends (f .config) (f .next) o → Good (accepted (sendAll f o) x)
   good-sent l o x h new = record {
-    taken = refl;
+    accepted = refl;
     range = parts (f .servers) (f .notices) (f .clients) _ _ (v .server) (v .notice) (v .client) h (λ m y. go m (waits-sent f o (omega arith) m y));
     full = length-sent (f .messages) (f .waiting) o (o .count) ∙ l;
   }
@@ -404,21 +405,21 @@ module _ (f : Facade) (v : Ranged f) where
 -- the parties act
 module _ (f : Facade) (v : Ranged f) (l : length (f .messages) ≡ 128) where
   server-acts : (k : ℕ) (x : ServerAnswer) (ts : List ℕ) → ServerFits (f .config) (f .time) (f .next) x → Heard f ts
-      → f .waiting + x .outbox .count ≤ cable → Good (serverActs (withNotices f ts) k x)
+      → f .waiting + x .outbox .count ≤ mostWaiting → Good (serverActs (withNotices f ts) k x)
   server-acts k x ts fits heard room =
       good-sent (withServer (withNotices f ts) k (x .server)) (with-server f v k (x .server) ts (fits .server) heard) l (x .outbox) (x .outcome) room (fits .sends)
 
-  client-acts : (i : ℕ) (x : ClientAnswer) → ClientFits (f .config) (f .next) i x → f .waiting + x .outbox .count ≤ cable → Good (clientActs f i x)
+  client-acts : (i : ℕ) (x : ClientAnswer) → ClientFits (f .config) (f .next) i x → f .waiting + x .outbox .count ≤ mostWaiting → Good (clientActs f i x)
   client-acts i x fits room = good-sent (withClient f i (x .client))
       (with-clients f v _ (λ j h. set-any (λ y. T (stateInRange (f .config) (f .next) (y .state))) (f .clients) i (x .client) noClient j (λ e. fits .state (omega arith)) (v .client j h)))
       l (x .outbox) (x .outcome) room (fits .sends)
 
-  good-handled : (m : Message) → T (messageInRange (f .config) (f .next) m) → (handled f m) .facade .waiting ≤ cable → Good (handled f m)
+  good-handled : (m : Message) → T (messageInRange (f .config) (f .next) m) → (handled f m) .facade .waiting ≤ mostWaiting → Good (handled f m)
   unfolding handled serverReceives messageInRange
   good-handled m x =
       let k : ℕ = m .receiver in
       let i : ℕ = k - f .config .servers in
-      cond-case (λ y. y .facade .waiting ≤ cable → Good y) (isServer (f .config) k) _ _
+      cond-case (λ y. y .facade .waiting ≤ mostWaiting → Good y) (isServer (f .config) k) _ _
       (λ h. server-acts k _ (f .notices)
       (cond-case (ServerFits (f .config) (f .time) (f .next)) ((serverAt f k) .alive) _ _
       (λ _. handles-fit (f .config) (f .time) (f .next) (sized f v) k (clock f k) h (reads f v k h) (m .interaction) (and-l _ _ x) (serverAt f k) (stored-at f v k h) (m .sender) (m .body) (and-r _ _ x))
@@ -469,7 +470,7 @@ module _ (f : Facade) (l : length (f .messages) ≡ 128) (v : Ranged f) where
       (length-removed (f .messages) p (f .waiting) h b ∙ l)
 
   good-effect : (x : Action) → Kept f x → Good (effect f x)
-  unfolding effect fieldsInRange exists interactionLeft returned taken
+  unfolding effect fieldsInRange exists interactionLeft afterReturn takenOut
   good-effect (pass d p e) x = good-pass d p e x
   good-effect (fail k) x =
       let s = stored-at f v k (x .names) in
@@ -487,7 +488,7 @@ module _ (f : Facade) (l : length (f .messages) ≡ 128) (v : Ranged f) where
       (λ k′ j′ b b′ ne. now (f .notices) (k * 4 + j) (f .time) (k′ * 4 + j′) (v .notice k′ j′ b b′ ne)) (x .room)
   good-effect (discover i) x =
       let b = begun (x .fresh-interaction) in
-      client-acts (withNext f (f .next + 1)) (b .0) l i _ (discovers-fit (f .config) (f .next + 1) i (sized f v) (x .names) (f .next) (b .1)) (x .room)
+      client-acts (withNext f (f .next + 1)) (b .0) l i _ (discovers-fit (f .config) (f .next + 1) i (sized f v) (x .names) (stateAt f i) (f .next) (b .0 .client i (ltb→lt _ _ (x .names))) (b .1)) (x .room)
   good-effect (request i t) x =
       client-acts f v l i _
       (requests-fit (f .config) (f .next) i (sized f v) (x .names) (stateAt f i) t (v .client i (ltb→lt _ _ (x .names))) (x .fields)) (x .room)
@@ -499,7 +500,7 @@ module _ (f : Facade) (l : length (f .messages) ≡ 128) (v : Ranged f) where
       let y = good-without p (x .names) in
       let m : Message = messageAt f p in
       let ok = v .message m (record { at = p; below = ltb→lt p (f .waiting) (x .names); is = refl }) in
-      cond-case (λ g. (handled g m) .facade .waiting ≤ cable → Good (handled g m)) (eqb keep 0) (without f p) f
+      cond-case (λ g. (handled g m) .facade .waiting ≤ mostWaiting → Good (handled g m)) (eqb keep 0) (without f p) f
       (λ _. good-handled (without f p) (y .range) (y .full) m ok) (λ _. good-handled f v l m ok) (x .room)
   good-effect (lose p) x = good-without p (x .names)
   good-effect (cleanup k) x =
@@ -595,5 +596,5 @@ never-two c ss s h =
     let x : Action = action s in
     let v = fresh-sound c ss h in
     cond-case (λ (y : Answer). y .refusal ≢ 2) (eqb (refusal f x) 0) _ _
-    (λ e. omega (arith, good f x (v .1) (eqb→eq (refusal f x) 0 e) .taken))
+    (λ e. omega (arith, good f x (v .1) (eqb→eq (refusal f x) 0 e) .accepted))
     (λ _. other f x (v .0))

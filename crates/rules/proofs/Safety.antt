@@ -38,9 +38,10 @@ pub record Safe (c : Config) (f : Facade) : Type 0 where
 
 of-invariant : (f : Facade) → Invariant f → Safe (f .config) f
 of-invariant f v = record {
-    one-holder = λ i j a e e′ h h′. one-holds f v i j a e e′ (h .q) (h′ .q) (h .exists) (h′ .exists) (h .is) (h′ .is);
-    one-leader = λ j k a ha l l′. one-leads f v j k a (l .exists) (l′ .exists) ha (l .live) (l′ .live) (l .is) (l′ .is);
-    recorded-end = λ i k a e h l. recorded f v i k a e (h .q) (h .exists) (l .exists) (h .is) (l .live) (l .is) }
+  one-holder = λ i j a e e′ h h′. one-holds f v i j a e e′ (h .q) (h′ .q) (h .exists) (h′ .exists) (h .is) (h′ .is);
+  one-leader = λ j k a ha l l′. one-leads f v j k a (l .exists) (l′ .exists) ha (l .live) (l′ .live) (l .is) (l′ .is);
+  recorded-end = λ i k a e h l. recorded f v i k a e (h .q) (h .exists) (l .exists) (h .is) (l .live) (l .is);
+}
 
 pub safety : (c : Config) → T (configInRange c) → (steps : List Step) → Safe c (run (fresh c) steps)
 safety c ok steps = subst (λ (d : Config). Safe d (run (fresh c) steps)) (config-stays c steps) (of-invariant (run (fresh c) steps) (invariant c ok steps))

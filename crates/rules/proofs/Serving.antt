@@ -10,10 +10,10 @@ use lib.ListN.{length, getD, set, replicate}
 use Rattle.types.specs.declared.Server.{Server}
 use Rattle.types.specs.declared.Message.{Message}
 use Rattle.types.specs.declared.Facade.{Facade}
-use Rattle.rules.specs.Tests.{_and_, filled}
+use Rattle.rules.specs.Conditions.{_and_, filled}
 use Rattle.rules.specs.Parts.{noWrite, serverAt, clock, leadsAt, recordAt, withLife}
 use Rattle.rules.specs.Messages.{nothing, sendAll}
-use Rattle.rules.specs.Server.{closed, leadRecord, leadsAfter, recordAfter, ledBy, noticed, returned, cleaned}
+use Rattle.rules.specs.Server.{closed, leadRecord, leadsAfter, recordAfter, leadingWith, noticed, keptRecords, afterReturn, cleaned}
 use Rattle.rules.specs.Steps.{Action, fail, return, notice, cleanup, exists, rowNow, effect}
 use Rattle.rules.proofs.Laws.{Or, inl, inr, and-l, cond-case, rep-ind, rep-false, length-filled, filled-at, filled-any}
 use Rattle.rules.proofs.Cable.{Waits, waits-sent, waits-unsent}
@@ -38,22 +38,25 @@ module _ (f : Facade) (g : Ranged f) (four : length (f .servers) ≡ 4) (len : l
   leased-fail k w =
       let hk : k < f .config .servers = ltb→lt k _ (w .names) in
       still (world f) v k (withLife (serverAt f k) false (f .time)) (Waits f)
-        (record { place = place k hk; row = v .rows k hk; up = λ a. le-refl _; lead = λ a e ha x. absurd x })
-        hk (λ a. refl) (λ a. refl) (v .acks) (λ m p i a e c. sent m p c)
+      (record { place = place k hk; row = v .rows k hk; up = λ a. le-refl _; lead = λ a e ha x. absurd x })
+      hk (λ a. refl) (λ a. refl) (v .acks) (λ m p i a e c. sent m p c)
 
   -- return: nothing is led or lent, and the records survive
+  survive : (k a : ℕ) → recordAt (serverAt f k) a ≤ getD (keptRecords (serverAt f k)) a 0
+  survive k a = omega arith
+
   pub leased-return : (k : ℕ) → Kept f (return k) → Leased (world ((effect f (return k)) .facade))
-  unfolding effect exists returned
+  unfolding effect exists afterReturn
   leased-return k w =
       let hk : k < f .config .servers = ltb→lt k _ (w .names) in
-      let s : Server = withLife ((returned (clock f k) (serverAt f k)) .server) true (f .time) in
+      let s : Server = withLife ((afterReturn (clock f k) (serverAt f k)) .server) true (f .time) in
       let raised : Raised (world f) k s =
-            record { place = place k hk; row = v .rows k hk; up = λ a. le-refl _; lead = λ a e ha _ t. absurd (rep-false 32 a t) } in
+      record { place = place k hk; row = v .rows k hk; up = survive k; lead = λ a e ha _ t. absurd (rep-false 32 a t) } in
       quiet (world f) v k s (Waits f) raised
-        (λ a ha. rep-ind (λ x. Cov (servedBy (world f) k s (Waits f)) a x) 32 0 0 a (cov-zero _ a) (cov-zero _ a))
-        (λ a ha. rep-ind (λ x. OpenOk (servedBy (world f) k s (Waits f)) a x) 32 closed noWrite a tt tt)
-        (λ m p. body-grows (world f) _ (served-grows (world f) v k s (Waits f) raised) (m .sender) (m .body) (v .acks m p))
-        (λ m p i a e c. sent m p c)
+      (λ a ha. rep-ind (λ x. Cov (servedBy (world f) k s (Waits f)) a x) 32 0 0 a (cov-zero _ a) (cov-zero _ a))
+      (λ a ha. rep-ind (λ x. OpenOk (servedBy (world f) k s (Waits f)) a x) 32 closed noWrite a tt tt)
+      (λ m p. body-grows (world f) _ (served-grows (world f) v k s (Waits f) raised) (m .sender) (m .body) (v .acks m p))
+      (λ m p i a e c. sent m p c)
 
   -- notice: on beginning to lead the record comes to cover every promise
   module _ (k : ℕ) (hk : k < f .config .servers) (b : List Bool) where
@@ -73,30 +76,31 @@ module _ (f : Facade) (g : Ranged f) (four : length (f .servers) ≡ 4) (len : l
     unfolding recordAfter
     after-covers a e al t c =
         begins (leadsAfter (f .config) k (clock f k) (serverAt f k) b a) (leadsAt (serverAt f k) a) _ _ e t (c .led k hk al)
-          (omega (arith, c .every k hk, clock-low f g k (omega arith)))
+        (omega (arith, c .every k hk, clock-low f g k (omega arith)))
 
-    led-raised : length ((serverAt f k) .leads) ≡ 32 → Raised (world f) k (ledBy (f .config) k (clock f k) (serverAt f k) b)
-    unfolding ledBy
+    led-raised : length ((serverAt f k) .leads) ≡ 32 → Raised (world f) k (leadingWith (f .config) k (clock f k) (serverAt f k) b)
+    unfolding leadingWith
     led-raised leads =
         let fits : (a : ℕ) → a < f .config .addresses → a < 32 = λ a ha. omega (arith, ok .addresses-high) in
         let recorded : (a : ℕ) → a < f .config .addresses → getD (filled (recordAfter (f .config) k (clock f k) (serverAt f k) b) (f .config .addresses) ((serverAt f k) .potlease)) a 0 ≡ recordAfter (f .config) k (clock f k) (serverAt f k) b a
-              = λ a ha. filled-at _ (f .config .addresses) ((serverAt f k) .potlease) 0 a ha (omega (arith, fits a ha, v .rows k hk)) in
+        = λ a ha. filled-at _ (f .config .addresses) ((serverAt f k) .potlease) 0 a ha (omega (arith, fits a ha, v .rows k hk)) in
         let led : (a : ℕ) → a < f .config .addresses → getD (filled (leadsAfter (f .config) k (clock f k) (serverAt f k) b) (f .config .addresses) ((serverAt f k) .leads)) a false ≡ leadsAfter (f .config) k (clock f k) (serverAt f k) b a
-              = λ a ha. filled-at _ (f .config .addresses) ((serverAt f k) .leads) false a ha (omega (arith, fits a ha)) in
+        = λ a ha. filled-at _ (f .config .addresses) ((serverAt f k) .leads) false a ha (omega (arith, fits a ha)) in
         record {
           place = place k hk;
           row = length-filled _ _ ((serverAt f k) .potlease) ∙ v .rows k hk;
           up = λ a. filled-any (λ x. recordAt (serverAt f k) a ≤ x) _ (f .config .addresses) ((serverAt f k) .potlease) 0 a (λ _. after-up a) (le-refl _);
-          lead = λ a e ha al t c. rw (recorded a ha) (after-covers a e al (rw (led a ha) at t) c) }
+          lead = λ a e ha al t c. rw (recorded a ha) (after-covers a e al (rw (led a ha) at t) c);
+        }
 
   pub leased-notice : (k j says : ℕ) → length ((serverAt f k) .leads) ≡ 32 → Kept f (notice k j says) → Leased (world ((effect f (notice k j says)) .facade))
-  unfolding effect exists noticed ledBy
+  unfolding effect exists noticed leadingWith
   leased-notice k j says leads w =
       let hk : k < f .config .servers = ltb→lt k _ (and-l _ _ (w .names)) in
       let b : List Bool = set ((serverAt f k) .believed) j (eqb says 1) in
-      still (world f) v k (ledBy (f .config) k (clock f k) (serverAt f k) b) (Waits (sendAll f nothing)) (led-raised k hk b leads) hk (λ a. refl) (λ a. refl)
-        (λ m p. v .acks m (waits-unsent f (g .waiting) len m p))
-        (λ m p i a e c. sent m (waits-unsent f (g .waiting) len m p) c)
+      still (world f) v k (leadingWith (f .config) k (clock f k) (serverAt f k) b) (Waits (sendAll f nothing)) (led-raised k hk b leads) hk (λ a. refl) (λ a. refl)
+      (λ m p. v .acks m (waits-unsent f (g .waiting) len m p))
+      (λ m p i a e c. sent m (waits-unsent f (g .waiting) len m p) c)
 
   pub leased-cleanup : OneLeader f → (k : ℕ) → Kept f (cleanup k) → Leased (world ((effect f (cleanup k)) .facade))
   unfolding effect exists cleaned

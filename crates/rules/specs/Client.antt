@@ -1,5 +1,5 @@
 -- What a client does, on its own state x: c is the configuration, i its number, r its clock reading.
--- A step that its state does not allow changes nothing and has outcome 1; the facade refuses it before.
+-- A step that its state does not allow changes nothing, sends nothing and has outcome 1; the facade refuses it before.
 use mathlib.Core.Bool.{Bool, true, false, cond}
 use Prim.Native.Nat.{ℕ, _+_}
 use lib.Dec.{ltb, eqb}
@@ -12,8 +12,8 @@ use Rattle.types.specs.declared.Body.the-variants.{Empty, Discover, Offer, Requ
 use Rattle.types.specs.declared.Message.{Message}
 use Rattle.types.specs.declared.Outbox.{Outbox}
 use Rattle.types.specs.declared.ClientAnswer.{ClientAnswer}
-use Rattle.rules.specs.Tests.{_and_}
-use Rattle.rules.specs.Parts.{party, inState, message}
+use Rattle.rules.specs.Conditions.{_and_}
+use Rattle.rules.specs.Parts.{clientParty, inState, message}
 use Rattle.rules.specs.Messages.{nothing, toEach}
 
 abbrev pub reply : State → ℕ → Outbox → ClientAnswer
@@ -21,7 +21,21 @@ reply x n o = record { client = inState x; outcome = n; outbox = o }
 
 -- the same message to each server
 abbrev pub broadcast : Config → ℕ → ℕ → Body → Outbox
-broadcast c i q b = toEach (λ j. message (party c i) j q b) (c .servers) nothing
+broadcast c i q b = toEach (λ j. message (clientParty c i) j q b) (c .servers) nothing
+
+unfoldable pub isOffered : State → Bool
+isOffered Idle = false
+isOffered (Asking q) = false
+isOffered (Offered q a) = true
+isOffered (Waiting q a) = false
+isOffered (Holding a e q) = false
+
+unfoldable pub isHolding : State → Bool
+isHolding Idle = false
+isHolding (Asking q) = false
+isHolding (Offered q a) = false
+isHolding (Waiting q a) = false
+isHolding (Holding a e q) = true
 
 -- "A client holding an end not above its clock becomes idle."
 unfoldable pub lapsed : ℕ → State → State
@@ -31,9 +45,9 @@ lapsed r (Offered q a) = Offered q a
 lapsed r (Waiting q a) = Waiting q a
 lapsed r (Holding a e q) = cond (ltb r e) (Holding a e q) Idle
 
--- "with a new κ the client is asking, and one discover goes to each server"
-unfoldable pub discovers : Config → ℕ → ℕ → ClientAnswer
-discovers c i q = reply (Asking q) 0 (broadcast c i q Discover)
+-- "with a new κ", q, "the client is asking, and one discover goes to each server"; one that holds may not
+unfoldable pub discovers : Config → ℕ → State → ℕ → ClientAnswer
+discovers c i x q = cond (isHolding x) (reply x 1 nothing) (reply (Asking q) 0 (broadcast c i q Discover))
 
 -- "an offered client becomes waiting; (κ, address, τ) goes to each server"
 unfoldable pub requests : Config → ℕ → State → ℕ → ClientAnswer
@@ -71,7 +85,7 @@ expects (Offered q′ a′) q a = false
 expects (Waiting q′ a′) q a = eqb q′ q and eqb a′ a
 expects (Holding a′ e q′) q a = eqb q′ q and eqb a′ a
 
--- "The new end replaces the old."
+-- "The new end replaces the old.": the state before is not looked at
 abbrev pub newEnd : State → ℕ → ℕ
 newEnd x e = e
 

@@ -11,15 +11,15 @@ use Rattle.types.specs.declared.State.the-variants.{Idle, Asking, Offered, Wait
 use Rattle.types.specs.declared.Step.{Step}
 use Rattle.types.specs.declared.Facade.{Facade}
 use Rattle.types.specs.declared.Answer.{Answer}
-use Rattle.rules.specs.Tests.{_and_, _or_, within, unless, all, lowest, filled}
+use Rattle.rules.specs.Conditions.{_and_, _or_, within, unless, all, lowest, filled}
 use Rattle.rules.specs.Clock.{signed}
 use Rattle.rules.specs.Parts.{serverAt, stateAt, recordAt}
-use Rattle.rules.specs.Ranges.{configInRange, interactionInRange, offsetInRange, reservationInRange, writeInRange, placeInRange, serverInRange, noticeInRange, stateInRange, isClient, bodyInRange, messageInRange, inRange}
+use Rattle.rules.specs.Ranges.{configInRange, interactionInRange, offsetInRange, reservationInRange, writeInRange, addressInRange, serverInRange, noticeInRange, stateInRange, isClient, bodyInRange, messageInRange, inRange}
 use Rattle.rules.specs.Order.{rank, isFirst}
 use Rattle.rules.specs.Messages.{postUnless, toServers, sentBehind, removed}
-use Rattle.rules.specs.Server.{leadsAfter, recordAfter, ledBy, noticed, returned, unlessOld, cleaned, expired, isFree, offerable, offers, onDiscover, granted, unlessOf, dropped, grantable, grants, onRequest, onRenew, onWrite, answers, acknowledged, onWriteAck, serverHandles, serverReceives}
-use Rattle.rules.specs.Client.{lapsed, discovers, requests, renews, asksWith, onOffer, expects, onAck, clientHandles}
-use Rattle.rules.specs.Steps.{fresh, action, isKnown, fieldsInRange, exists, isOffered, isHolding, stateAllows, ofPass, timeLeft, clockAllows, inTouch, isTimely, ofNotice, interactionLeft, lapse, rowNow, taken, handled, effect, roomLeft, refusal, answerTo, step, run}
+use Rattle.rules.specs.Server.{leadsAfter, recordAfter, leadingWith, noticed, afterReturn, freedIfOld, cleaned, expired, isFree, offerable, offers, onDiscover, granted, freedIfOf, dropped, grantable, grants, onRequest, onRenew, onWrite, matchesWrite, acknowledged, onWriteAck, serverHandles, serverReceives}
+use Rattle.rules.specs.Client.{isOffered, isHolding, lapsed, discovers, requests, renews, asksWith, onOffer, expects, onAck, clientHandles}
+use Rattle.rules.specs.Steps.{fresh, action, isKnown, fieldsInRange, exists, stateAllows, ofPass, timeLeft, clockAllows, inTouch, isCredible, ofNotice, interactionLeft, lapse, rowNow, takenOut, handled, effect, roomLeft, refusal, answerTo, step, run}
 
 stepOf : ℕ → ℕ → ℕ → ℕ → Step
 stepOf k x y z = record { kind = k; first = x; second = y; third = z }
@@ -33,5 +33,5 @@ example =
     ∷ stepOf 5 0 0 0 ∷ stepOf 8 0 0 0 ∷ stepOf 8 1 0 0 ∷ stepOf 6 0 100 0 ∷ stepOf 8 1 0 0 ∷ stepOf 8 2 0 0 ∷ stepOf 5 0 0 0 ∷ []
 
 example-held : (stateAt (run (fresh exampleConfig) example) 0 ≡ Holding 0 19 1) × (recordAt (serverAt (run (fresh exampleConfig) example) 0) 0 ≡ 100)
-unfolding stepOf exampleConfig example _and_ _or_ within unless all lowest filled signed configInRange interactionInRange offsetInRange reservationInRange writeInRange placeInRange serverInRange noticeInRange stateInRange isClient bodyInRange messageInRange inRange rank isFirst postUnless toServers sentBehind removed leadsAfter recordAfter ledBy noticed returned unlessOld cleaned expired isFree offerable offers onDiscover granted unlessOf dropped grantable grants onRequest onRenew onWrite answers acknowledged onWriteAck serverHandles serverReceives lapsed discovers requests renews asksWith onOffer expects onAck clientHandles fresh action isKnown fieldsInRange exists isOffered isHolding stateAllows ofPass timeLeft clockAllows inTouch isTimely ofNotice interactionLeft lapse rowNow taken handled effect roomLeft refusal answerTo step run
+unfolding stepOf exampleConfig example _and_ _or_ within unless all lowest filled signed configInRange interactionInRange offsetInRange reservationInRange writeInRange addressInRange serverInRange noticeInRange stateInRange isClient bodyInRange messageInRange inRange rank isFirst postUnless toServers sentBehind removed leadsAfter recordAfter leadingWith noticed afterReturn freedIfOld cleaned expired isFree offerable offers onDiscover granted freedIfOf dropped grantable grants onRequest onRenew onWrite matchesWrite acknowledged onWriteAck serverHandles serverReceives lapsed discovers requests renews asksWith onOffer expects onAck clientHandles fresh action isKnown fieldsInRange exists isOffered isHolding stateAllows ofPass timeLeft clockAllows inTouch isCredible ofNotice interactionLeft lapse rowNow takenOut handled effect roomLeft refusal answerTo step run
 example-held = (refl, refl)

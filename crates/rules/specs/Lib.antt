@@ -1,5 +1,5 @@
--- Document 01 as definitions, in the paper's order. The theorems over them are in proofs/.
-pub mod Tests
+-- Document 01 as definitions, from the ground up. The theorems over them are in proofs/.
+pub mod Conditions
 pub mod Clock
 pub mod Parts
 pub mod Ranges

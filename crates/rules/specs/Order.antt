@@ -3,7 +3,7 @@ use mathlib.Core.Bool.{Bool, not}
 use mathlib.Core.List.{List}
 use Prim.Native.Nat.{ℕ, _+_, _-_, _%_}
 use lib.Dec.{leb}
-use Rattle.rules.specs.Tests.{_and_, _or_, all}
+use Rattle.rules.specs.Conditions.{_and_, _or_, all}
 use Rattle.rules.specs.Parts.{believes}
 
 -- "The order for address a puts server j at rank (j − a) mod S, lowest first."

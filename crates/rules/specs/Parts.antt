@@ -148,8 +148,8 @@ noMessage = message 0 0 0 Empty
 
 -- The facade. Parties are the servers, then the clients.
 
-abbrev pub party : Config → ℕ → ℕ
-party c i = c .servers + i
+abbrev pub clientParty : Config → ℕ → ℕ
+clientParty c i = c .servers + i
 
 abbrev pub parties : Config → ℕ
 parties c = c .servers + c .clients

@@ -18,7 +18,7 @@ use Rattle.types.specs.declared.Body.{Body}
 use Rattle.types.specs.declared.Body.the-variants.{Empty, Discover, Offer, Request, Renew, Write, WriteAck, Ack}
 use Rattle.types.specs.declared.Message.{Message}
 use Rattle.types.specs.declared.Facade.{Facade}
-use Rattle.rules.specs.Tests.{_and_, _or_, within, all}
+use Rattle.rules.specs.Conditions.{_and_, _or_, within, all}
 use Rattle.rules.specs.Clock.{notNegative}
 use Rattle.rules.specs.Parts.{parties, serverAt, stateAt, messageAt, offsetAt, noticeAt, reservedAt, lentAt, recordAt, writeAt}
 
@@ -41,9 +41,9 @@ lastTime = 1000000000
 abbrev pub lastInteraction : ℕ
 lastInteraction = 1000000
 
--- how many messages may wait
-abbrev pub cable : ℕ
-cable = 128
+-- the most messages that may wait
+abbrev pub mostWaiting : ℕ
+mostWaiting = 128
 
 -- "Every stored end, τ or record is 0 to 2,000,000,000."
 abbrev pub endInRange : ℕ → Bool
@@ -70,8 +70,8 @@ writeInRange n Closed = true
 writeInRange n (Open q v) = interactionInRange n q and endInRange v
 
 -- what a server stores for address a
-unfoldable pub placeInRange : ℕ → Server → ℕ → Bool
-placeInRange n s a =
+unfoldable pub addressInRange : ℕ → Server → ℕ → Bool
+addressInRange n s a =
     reservationInRange n (reservedAt s a)
     and endInRange (lentAt s a)
     and endInRange (recordAt s a)
@@ -79,9 +79,9 @@ placeInRange n s a =
 
 -- "Stored true times are not above true time", t
 unfoldable pub serverInRange : Config → ℕ → ℕ → Server → Bool
-serverInRange c t n s = leb (s .changed) t and readingInRange (s .returned) and all (placeInRange n s) (c .addresses)
+serverInRange c t n s = leb (s .changed) t and readingInRange (s .returned) and all (addressInRange n s) (c .addresses)
 
--- a server has no notice about itself
+-- a server's own entry is not looked at
 unfoldable pub noticeInRange : Facade → ℕ → ℕ → Bool
 noticeInRange f k j = eqb j k or leb (noticeAt f k j) (f .time)
 
@@ -118,7 +118,7 @@ inRange f =
     configInRange (f .config)
     and leb (f .time) lastTime
     and within 1 (lastInteraction + 1) (f .next)
-    and leb (f .waiting) cable
+    and leb (f .waiting) mostWaiting
     and all (λ p. offsetInRange (f .config) (f .time) (offsetAt f p)) (parties (f .config))
     and all (λ k. serverInRange (f .config) (f .time) (f .next) (serverAt f k)) (f .config .servers)
     and all (λ k. all (noticeInRange f k) (f .config .servers)) (f .config .servers)

@@ -19,17 +19,13 @@ use Rattle.types.specs.declared.Body.the-variants.{Empty, Discover, Offer, Requ
 use Rattle.types.specs.declared.Message.{Message}
 use Rattle.types.specs.declared.Outbox.{Outbox}
 use Rattle.types.specs.declared.ServerAnswer.{ServerAnswer}
-use Rattle.rules.specs.Tests.{_and_, _or_, all, lowest, filled}
-use Rattle.rules.specs.Parts.{leadsAt, reservedAt, lentAt, recordAt, writeAt, withLeading, withReserved, withLease, withRecord, withWrite, message}
+use Rattle.rules.specs.Conditions.{_and_, _or_, all, lowest, filled}
+use Rattle.rules.specs.Parts.{noReservation, leadsAt, reservedAt, lentAt, recordAt, writeAt, withLeading, withReserved, withLease, withRecord, withWrite, message}
 use Rattle.rules.specs.Order.{isFirst}
 use Rattle.rules.specs.Messages.{nothing, post, toOthers}
 
 abbrev pub answer : Server → ℕ → Outbox → ServerAnswer
 answer s n o = record { server = s; outcome = n; outbox = o }
-
--- what nobody has reserved
-abbrev pub free : Reservation
-free = record { state = Free }
 
 -- no open write
 abbrev pub closed : OpenWrite
@@ -57,12 +53,12 @@ leadsAfter c k r s b a = isFirst (c .servers) a k b and (leadsAt s a or leb (s .
 unfoldable pub recordAfter : Config → ℕ → ℕ → Server → List Bool → ℕ → ℕ
 recordAfter c k r s b a = cond (leadsAfter c k r s b a and not (leadsAt s a)) (max (recordAt s a) (leadRecord c r)) (recordAt s a)
 
-unfoldable pub ledBy : Config → ℕ → ℕ → Server → List Bool → Server
-ledBy c k r s b = withLeading s b (filled (leadsAfter c k r s b) (c .addresses) (s .leads)) (filled (recordAfter c k r s b) (c .addresses) (s .potlease))
+unfoldable pub leadingWith : Config → ℕ → ℕ → Server → List Bool → Server
+leadingWith c k r s b = withLeading s b (filled (leadsAfter c k r s b) (c .addresses) (s .leads)) (filled (recordAfter c k r s b) (c .addresses) (s .potlease))
 
 -- "the set is updated; then, for each address, .."
 unfoldable pub noticed : Config → ℕ → ℕ → Server → ℕ → ℕ → ServerAnswer
-noticed c k r s about says = answer (ledBy c k r s (set (s .believed) about (eqb says 1))) 0 nothing
+noticed c k r s about says = answer (leadingWith c k r s (set (s .believed) about (eqb says 1))) 0 nothing
 
 -- Return.
 
@@ -71,8 +67,8 @@ abbrev pub keptRecords : Server → List ℕ
 keptRecords s = s .potlease
 
 -- "its return reading is its clock, .. believed live is all; led, reservations, lent ends and writes are cleared"
-unfoldable pub returned : ℕ → Server → ServerAnswer
-returned r s =
+unfoldable pub afterReturn : ℕ → Server → ServerAnswer
+afterReturn r s =
     answer
     (record {
       alive = s .alive;
@@ -80,7 +76,7 @@ returned r s =
       returned = r;
       believed = replicate 4 true;
       leads = replicate 32 false;
-      reserved = replicate 32 free;
+      reserved = replicate 32 noReservation;
       lent = replicate 32 0;
       potlease = keptRecords s;
       writes = replicate 32 closed;
@@ -90,16 +86,16 @@ returned r s =
 -- Cleanup.
 
 -- "drops each reservation whose reading + θ < clock"
-unfoldable pub unlessOld : Config → ℕ → Reserved → Reserved
-unlessOld c r Free = Free
-unlessOld c r (Taken q r′) = cond (ltb (r′ + c .hold) r) Free (Taken q r′)
+unfoldable pub freedIfOld : Config → ℕ → Reserved → Reserved
+freedIfOld c r Free = Free
+freedIfOld c r (Taken q r′) = cond (ltb (r′ + c .hold) r) Free (Taken q r′)
 
 unfoldable pub cleaned : Config → ℕ → Server → ServerAnswer
-cleaned c r s = answer (withReserved s (filled (λ a. record { state = unlessOld c r (reservedAt s a) }) (c .addresses) (s .reserved))) 0 nothing
+cleaned c r s = answer (withReserved s (filled (λ a. record { state = freedIfOld c r (reservedAt s a) }) (c .addresses) (s .reserved))) 0 nothing
 
 -- Discover.
 
--- by how much a record must have passed: 2Δ
+-- a record must have passed by more than this: 2Δ
 abbrev pub expirySlack : Config → ℕ
 expirySlack c = 2 * c .skew
 
@@ -132,7 +128,7 @@ onDiscover c k r s p q = offers c k r s p q (lowest (offerable c r s) 0 (c .addr
 abbrev pub writtenEnd : ℕ → ℕ → ℕ
 writtenEnd t l = max t l
 
--- the end in the ack: "the ack with the lent end is sent"
+-- the end in the ack: "the ack with the lent end is sent"; τ is not looked at
 abbrev pub ackEnd : ℕ → ℕ → ℕ
 ackEnd t l = l
 
@@ -144,13 +140,13 @@ granted c k s p q a t l =
     0
     (toOthers k (λ j. message k j q (Write a (writtenEnd t l))) (c .servers) (post nothing (message k p q (Ack a (ackEnd t l)))))
 
-unfoldable pub unlessOf : ℕ → Reserved → Reserved
-unlessOf q Free = Free
-unlessOf q (Taken q′ r) = cond (eqb q′ q) Free (Taken q′ r)
+unfoldable pub freedIfOf : ℕ → Reserved → Reserved
+freedIfOf q Free = Free
+freedIfOf q (Taken q′ r) = cond (eqb q′ q) Free (Taken q′ r)
 
 -- "reservations of κ are dropped in any case"
 unfoldable pub dropped : Config → ℕ → Server → Server
-dropped c q s = withReserved s (filled (λ a. record { state = unlessOf q (reservedAt s a) }) (c .addresses) (s .reserved))
+dropped c q s = withReserved s (filled (λ a. record { state = freedIfOf q (reservedAt s a) }) (c .addresses) (s .reserved))
 
 -- "If led and record + 2Δ < clock"
 unfoldable pub grantable : Config → ℕ → Server → ℕ → Bool
@@ -175,9 +171,9 @@ onWrite k s p q a v = answer (withRecord s a (max (recordAt s a) v)) 0 (post not
 -- Write ack.
 
 -- "κ and v both equal the open write's"
-unfoldable pub answers : ℕ → ℕ → Pending → Bool
-answers q v Closed = false
-answers q v (Open q′ v′) = eqb q q′ and eqb v v′
+unfoldable pub matchesWrite : ℕ → ℕ → Pending → Bool
+matchesWrite q v Closed = false
+matchesWrite q v (Open q′ v′) = eqb q q′ and eqb v v′
 
 -- "when all S servers are in, lent end := larger of it and v, and the write closes"
 unfoldable pub acknowledged : Config → Server → ℕ → ℕ → ℕ → List Bool → Server
@@ -189,7 +185,7 @@ acknowledged c s q a v acked =
 -- "if led and .., the sender is added"
 unfoldable pub onWriteAck : Config → Server → ℕ → ℕ → ℕ → ℕ → ServerAnswer
 onWriteAck c s p q a v =
-    cond (leadsAt s a and answers q v ((writeAt s a) .pending))
+    cond (leadsAt s a and matchesWrite q v ((writeAt s a) .pending))
     (answer (acknowledged c s q a v (set ((writeAt s a) .acked) p true)) 0 nothing)
     (answer s 1 nothing)
 

@@ -16,13 +16,13 @@ use Rattle.types.specs.declared.Step.{Step}
 use Rattle.types.specs.declared.Answer.{Answer}
 use Rattle.types.specs.declared.ServerAnswer.{ServerAnswer}
 use Rattle.types.specs.declared.ClientAnswer.{ClientAnswer}
-use Rattle.rules.specs.Tests.{_and_, _or_, within, unless, all, filled}
+use Rattle.rules.specs.Conditions.{_and_, _or_, within, unless, all, filled}
 use Rattle.rules.specs.Clock.{plus, notNegative, signed}
-use Rattle.rules.specs.Parts.{serverAt, stateAt, messageAt, offsetAt, noticeAt, clock, party, parties, inState, noClient, noMessage, withLife, withServer, withNotices, withClient, withClients, withTime, withNext}
-use Rattle.rules.specs.Ranges.{configInRange, inRange, endInRange, isServer, lastTime, lastInteraction, cable}
+use Rattle.rules.specs.Parts.{serverAt, stateAt, messageAt, offsetAt, noticeAt, clock, clientParty, parties, inState, noReservation, noClient, noMessage, withLife, withServer, withNotices, withClient, withClients, withTime, withNext}
+use Rattle.rules.specs.Ranges.{configInRange, inRange, endInRange, isServer, lastTime, lastInteraction, mostWaiting}
 use Rattle.rules.specs.Messages.{sendAll, without}
-use Rattle.rules.specs.Server.{free, closed, noticed, returned, cleaned, serverReceives}
-use Rattle.rules.specs.Client.{lapsed, discovers, requests, renews, clientReceives}
+use Rattle.rules.specs.Server.{closed, noticed, afterReturn, cleaned, serverReceives}
+use Rattle.rules.specs.Client.{isOffered, isHolding, lapsed, discovers, requests, renews, clientReceives}
 
 -- Fresh: "time 0, clocks exact, all alive with c and return reading 0, everyone believed live, notice times 0,
 -- nothing led, reserved or open, ends and records 0, no messages, clients idle". All places are filled alike.
@@ -34,7 +34,7 @@ freshServer = record {
   returned = 0;
   believed = replicate 4 true;
   leads = replicate 32 false;
-  reserved = replicate 32 free;
+  reserved = replicate 32 noReservation;
   lent = replicate 32 0;
   potlease = replicate 32 0;
   writes = replicate 32 closed;
@@ -83,9 +83,9 @@ action s =
     (cond (eqb (s .kind) 10) (cleanup (s .first))
     unknown)))))))))
 
--- The refusals. A test says that the rule of its number is kept.
+-- The refusals. A test says that the rule of its number is kept. Refusals 1 and 3 are of scripts.
 
--- 4. "The kind is not 1 to 10."
+-- Refusal 4. "The kind is not 1 to 10."
 unfoldable pub isKnown : Action → Bool
 isKnown (pass d p e) = true
 isKnown (fail k) = true
@@ -99,7 +99,7 @@ isKnown (lose p) = true
 isKnown (cleanup k) = true
 isKnown unknown = false
 
--- 5. "A d, e, τ, keep or says is outside its range."
+-- Refusal 5. "A d, e, τ, keep or says is outside its range."
 unfoldable pub fieldsInRange : Action → Bool
 fieldsInRange (pass d p e) = within 1 100000 d and leb (natAbs e) 2000
 fieldsInRange (fail k) = true
@@ -113,7 +113,7 @@ fieldsInRange (lose p) = true
 fieldsInRange (cleanup k) = true
 fieldsInRange unknown = true
 
--- 6. "A named party, server, client or position does not exist, or a notice is about its own receiver."
+-- Refusal 6. "A named party, server, client or position does not exist, or a notice is about its own receiver."
 unfoldable pub exists : Facade → Action → Bool
 exists f (pass d p e) = ltb p (parties (f .config))
 exists f (fail k) = isServer (f .config) k
@@ -127,21 +127,7 @@ exists f (lose p) = ltb p (f .waiting)
 exists f (cleanup k) = isServer (f .config) k
 exists f unknown = true
 
-unfoldable pub isOffered : State → Bool
-isOffered Idle = false
-isOffered (Asking q) = false
-isOffered (Offered q a) = true
-isOffered (Waiting q a) = false
-isOffered (Holding a e q) = false
-
-unfoldable pub isHolding : State → Bool
-isHolding Idle = false
-isHolding (Asking q) = false
-isHolding (Offered q a) = false
-isHolding (Waiting q a) = false
-isHolding (Holding a e q) = true
-
--- 7. "The named party is in the wrong state: fail, notice or cleanup of a dead server, return of a live one,
+-- Refusal 7. "The named party is in the wrong state: fail, notice or cleanup of a dead server, return of a live one,
 -- discover by a holding client, request by one not offered, renew by one not holding."
 unfoldable pub stateAllows : Facade → Action → Bool
 stateAllows f (pass d p e) = true
@@ -170,23 +156,23 @@ ofPass g (lose p) = true
 ofPass g (cleanup k) = true
 ofPass g unknown = true
 
--- 8. "True time would pass 1,000,000,000."
+-- Refusal 8. "True time would pass 1,000,000,000."
 unfoldable pub timeLeft : Facade → ℕ → ℕ → ℤ → Bool
 timeLeft f d p e = leb (f .time + d) lastTime
 
--- 9. "A clock would go back (d+e below 0) or be off by more than Δ."
+-- Refusal 9. "A clock would go back (d+e below 0) or be off by more than Δ."
 unfoldable pub clockAllows : Facade → ℕ → ℕ → ℤ → Bool
 clockAllows f d p e = notNegative d e and leb (natAbs (offsetAt f p +ℤ e)) (f .config .skew)
 
--- 10. "A pass would leave a live server more than ν without a notice about another."
+-- Refusal 10. "A pass would leave a live server more than ν without a notice about another."
 unfoldable pub inTouch : Facade → ℕ → ℕ → ℤ → Bool
 inTouch f d p e =
     all (λ k. not ((serverAt f k) .alive) or all (λ j. eqb j k or leb (f .time + d) (noticeAt f k j + f .config .silence)) (f .config .servers))
     (f .config .servers)
 
--- 11. "A dead notice about a server alive for ν or more since c, or an alive notice about one dead for ν or more."
-unfoldable pub isTimely : Facade → ℕ → ℕ → Bool
-isTimely f j says =
+-- Refusal 11. "A dead notice about a server alive for ν or more since c, or an alive notice about one dead for ν or more."
+unfoldable pub isCredible : Facade → ℕ → ℕ → Bool
+isCredible f j says =
     cond (eqb says 1) ((serverAt f j) .alive) (not ((serverAt f j) .alive)) or ltb (f .time) ((serverAt f j) .changed + f .config .silence)
 
 unfoldable pub ofNotice : (ℕ → ℕ → Bool) → Action → Bool
@@ -202,7 +188,7 @@ ofNotice g (lose p) = true
 ofNotice g (cleanup k) = true
 ofNotice g unknown = true
 
--- 12. "A new κ would be above 1,000,000."
+-- Refusal 12. "A new κ would be above 1,000,000."
 unfoldable pub interactionLeft : Facade → Action → Bool
 interactionLeft f (pass d p e) = true
 interactionLeft f (fail k) = true
@@ -233,21 +219,21 @@ serverActs f k x = accepted (sendAll (withServer f k (x .server)) (x .outbox)) (
 abbrev pub clientActs : Facade → ℕ → ClientAnswer → Answer
 clientActs f i x = accepted (sendAll (withClient f i (x .client)) (x .outbox)) (x .outcome)
 
--- 1. "true time goes up by d and every clock by d, but that party's by d+e"
+-- Step 1. "true time goes up by d and every clock by d, but that party's by d+e"
 abbrev pub moved : Facade → ℕ → ℕ → ℤ → Facade
 moved f d p e = withTime f (f .time + d) (set (f .offsets) p (offsetAt f p +ℤ e))
 
 -- "A client holding an end not above its clock becomes idle."
 unfoldable pub lapse : Facade → Facade
-lapse f = withClients f (filled (λ i. inState (lapsed (clock f (party (f .config) i)) (stateAt f i))) (f .config .clients) (f .clients))
+lapse f = withClients f (filled (λ i. inState (lapsed (clock f (clientParty (f .config) i)) (stateAt f i))) (f .config .clients) (f .clients))
 
--- 3. "its notice times are now": the row of receiver k
+-- Step 3. "its notice times are now": the row of receiver k
 unfoldable pub rowNow : List ℕ → ℕ → ℕ → List ℕ
 rowNow ts k t = set (set (set (set ts (k * 4) t) (k * 4 + 1) t) (k * 4 + 2) t) (k * 4 + 3) t
 
--- 8. "if keep is 0 the message is taken out first"
-unfoldable pub taken : Facade → ℕ → ℕ → Facade
-taken f p keep = cond (eqb keep 0) (without f p) f
+-- Step 8. "if keep is 0 the message is taken out first"
+unfoldable pub takenOut : Facade → ℕ → ℕ → Facade
+takenOut f p keep = cond (eqb keep 0) (without f p) f
 
 -- "then it is handled"
 unfoldable pub handled : Facade → Message → Answer
@@ -263,22 +249,22 @@ effect f (fail k) = accepted (withServer f k (withLife (serverAt f k) false (f .
 effect f (return k) =
     accepted
     (withNotices
-    (withServer f k (withLife ((returned (clock f k) (serverAt f k)) .server) true (f .time)))
+    (withServer f k (withLife ((afterReturn (clock f k) (serverAt f k)) .server) true (f .time)))
     (rowNow (f .notices) k (f .time)))
     0
 effect f (notice k j says) =
     serverActs (withNotices f (set (f .notices) (k * 4 + j) (f .time))) k (noticed (f .config) k (clock f k) (serverAt f k) j says)
-effect f (discover i) = clientActs (withNext f (f .next + 1)) i (discovers (f .config) i (f .next))
+effect f (discover i) = clientActs (withNext f (f .next + 1)) i (discovers (f .config) i (stateAt f i) (f .next))
 effect f (request i t) = clientActs f i (requests (f .config) i (stateAt f i) t)
 effect f (renew i t) = clientActs (withNext f (f .next + 1)) i (renews (f .config) i (stateAt f i) t (f .next))
-effect f (deliver p keep) = handled (taken f p keep) (messageAt f p)
+effect f (deliver p keep) = handled (takenOut f p keep) (messageAt f p)
 effect f (lose p) = accepted (without f p) 0
 effect f (cleanup k) = serverActs f k (cleaned (f .config) (clock f k) (serverAt f k))
 effect f unknown = accepted f 0
 
--- 13. "More than 128 messages would wait afterwards."
+-- Refusal 13. "More than 128 messages would wait afterwards."
 unfoldable pub roomLeft : Facade → Action → Bool
-roomLeft f x = leb ((effect f x) .facade .waiting) cable
+roomLeft f x = leb ((effect f x) .facade .waiting) mostWaiting
 
 -- "Refusal list, checked from the top": the number of the first rule that is broken, or 0
 unfoldable pub refusal : Facade → Action → ℕ
@@ -291,7 +277,7 @@ refusal f x =
     (unless (ofPass (timeLeft f) x) 8
     (unless (ofPass (clockAllows f) x) 9
     (unless (ofPass (inTouch f) x) 10
-    (unless (ofNotice (isTimely f) x) 11
+    (unless (ofNotice (isCredible f) x) 11
     (unless (interactionLeft f x) 12
     (unless (roomLeft f x) 13
     0))))))))))

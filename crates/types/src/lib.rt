@@ -1,4 +1,4 @@
-// The data of document 01 and nothing else. A comment names the term of the paper where it differs.
+// The data of document 01, and what the parties answer. A comment names the term of the paper where it differs.
 
 // The configuration: how many there are of each, and the four times.
 pub struct Config {

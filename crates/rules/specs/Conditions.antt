@@ -1,4 +1,4 @@
--- Tests and repetitions that the rules are written with.
+-- Conditions and repetitions that the rules are written with.
 use mathlib.Core.Bool.{Bool, true, false, cond}
 use mathlib.Core.List.{List}
 use Prim.Native.Nat.{ℕ, zero, suc}
@@ -18,7 +18,7 @@ false or b = b
 unfoldable pub within : ℕ → ℕ → ℕ → Bool
 within low high x = leb low x and leb x high
 
--- the number of a rule where its test fails, and else what the rules below it give
+-- the number of a refusal where its test fails, and else what the refusals below it give
 unfoldable pub unless : Bool → ℕ → ℕ → ℕ
 unless true n below = below
 unless false n below = n
