@@ -9,3 +9,4 @@ pub mod Server
 pub mod Client
 pub mod Steps
 pub mod Examples
+pub mod Edges
