@@ -152,7 +152,7 @@ module _ (out : ℕ → Bool) (g : ℕ → Message) (o : Outbox) where
   servers-length (suc n) = unless-case (λ x. length (x .messages) ≡ length (o .messages)) (out n) (toServers out g n o) (g n)
       (λ _. servers-length n) (λ _. length-set ((toServers out g n o) .messages) _ (g n) ∙ servers-length n)
 
-  servers-count : (n : ℕ) → (toServers out g n o) .count ≤ o .count + n
+  pub servers-count : (n : ℕ) → (toServers out g n o) .count ≤ o .count + n
   unfolding toServers
   servers-count zero = omega arith
   servers-count (suc n) = unless-case (λ x. x .count ≤ o .count + suc n) (out n) (toServers out g n o) (g n)
@@ -187,7 +187,7 @@ posted-each g n h m x = go (posted-servers (λ j. false) g nothing n (λ j l _. 
 
 -- one message, then one to each server other than k
 module _ (k : ℕ) (g : ℕ → Message) (o : Outbox) where
-  others-count : (n : ℕ) → k < n → (toOthers k g n o) .count + 1 ≤ o .count + n
+  pub others-count : (n : ℕ) → k < n → (toOthers k g n o) .count + 1 ≤ o .count + n
   unfolding toServers
   others-count zero h = absurd (not-suc-le-zero h)
   others-count (suc n) h = unless-case (λ j. eqb j k) g o (λ x. x .count + 1 ≤ o .count + suc n) (eqb n k) (toOthers k g n o) (g n)

@@ -3,14 +3,15 @@ use mathlib.Core.Path.{_≡_, refl, sym, ap, _∙_}
 use mathlib.Core.Logic.{_≢_}
 use mathlib.Core.Bool.{Bool, true, false, not, cond}
 use mathlib.Core.List.{List, [], _∷_}
-use Prim.Native.Nat.{ℕ, zero, suc, _+_, _≤_, _<_}
+use Prim.Native.Nat.{ℕ, zero, suc, _+_, _-_, _≤_, _<_}
+use native.Mathlib.Numerals.{add-one}
 use native.Mathlib.Nat.{not-suc-le-zero}
 use native.Mathlib.Omega.{arith}
 use native.Mathlib.Decide.{ℕ-discrete, decLt}
 use lib.Dec.{T, leb, eqb, leb→le, eqb-refl}
 use lib.ListN.{length, getD, set, replicate, length-set}
 use lib.Seq.{getD-set-same, getD-set-other, set-out}
-use Rattle.rules.specs.Conditions.{_and_, _or_, within, unless, all, filled}
+use Rattle.rules.specs.Conditions.{_and_, _or_, within, unless, all, lowest, filled}
 
 pub data Or (A B : Type 0) : Type 0 where
   inl : A → Or A B
@@ -87,6 +88,29 @@ pub all-by : (p : ℕ → Bool) (n : ℕ) → ((i : ℕ) → i < n → T (p i)) 
 unfolding all
 all-by p zero f = tt
 all-by p (suc n) f = and-both (p n) (all p n) (f n (omega arith)) (all-by p n (λ i h. f i (omega arith)))
+
+-- One turn more of a loop that tests each number, and of a search.
+
+pub all-more : (p : ℕ → Bool) (n : ℕ) (x y z : Bool) → x ≡ p n → y ≡ all p n → z ≡ (x and y) → z ≡ all p (n + 1)
+unfolding all
+all-more p n x y z e h q = rw add-one (rw (← e, ← h) q)
+
+-- the search for the lowest number, at i of n
+module _ (p : ℕ → Bool) (i n : ℕ) where
+  one-more : i < n → n - i ≡ suc (n - (i + 1))
+  one-more h = omega arith
+
+  pub lowest-here : i < n → p i ≡ true → i ≡ lowest p i (n - i)
+  unfolding lowest
+  lowest-here h e = rw (one-more h, e)
+
+  pub lowest-on : i < n → p i ≡ false → lowest p i (n - i) ≡ lowest p (i + 1) (n - (i + 1))
+  unfolding lowest
+  lowest-on h e = rw (one-more h, e, add-one)
+
+  pub lowest-none : n ≤ i → lowest p i (n - i) ≡ i
+  unfolding lowest
+  lowest-none h = let e : n - i ≡ 0 = omega arith in rw e
 
 -- Lists.
 

@@ -12,3 +12,5 @@ pub mod Delivery
 pub mod Ranges
 pub mod Invariant
 pub mod Safety
+pub mod Refusals
+pub mod Counts

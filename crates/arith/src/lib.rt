@@ -1,0 +1,95 @@
+// Leaves on tests and numbers, each proved once: bounds, offsets, clocks and ranks.
+ghost use mathlib.Core.Path.{_≡_};
+ghost use Prim.Native.Nat.{_≤_, _<_, max};
+ghost use lib.IntN.{natAbs, _+ℤ_};
+ghost use Rattle.rules.specs.Conditions.{_and_, _or_, within};
+ghost use Rattle.rules.specs.Clock.{plus, notNegative, signed};
+ghost use Rattle.rules.specs.Order.{rank};
+
+// Both tests, in the order of the rules.
+pub fn both(x: bool, y: bool) -> bool
+    ensures { λ r. ⌜ r ≡ (x and y) ⌝ }
+{
+    if x { y } else { false }
+}
+
+// One of two tests.
+pub fn either(x: bool, y: bool) -> bool
+    ensures { λ r. ⌜ r ≡ (x or y) ⌝ }
+{
+    if x { true } else { y }
+}
+
+// The larger of two numbers.
+pub fn larger(x: u32, y: u32) -> u32
+    ensures { λ r. ⌜ r ≡ max x y ⌝ }
+{
+    if x < y { y } else { x }
+}
+
+// Whether x lies between two bounds.
+pub fn is_within(low: u32, high: u32, x: u32) -> bool
+    ensures { λ r. ⌜ r ≡ within low high x ⌝ }
+{
+    both(low <= x, x <= high)
+}
+
+// By how much an offset is off.
+pub fn magnitude(o: i32) -> u32
+    ensures { λ r. ⌜ r ≡ natAbs o ⌝ }
+{
+    if o < 0 {
+        ((-1 - o) as u32) + 1
+    } else {
+        o as u32
+    }
+}
+
+// Whether t with the signed amount o is not negative.
+pub fn is_not_negative(t: u32, o: i32) -> bool
+    ensures { λ r. ⌜ r ≡ notNegative t o ⌝ }
+{
+    if o < 0 {
+        return magnitude(o) <= t;
+    }
+    true
+}
+
+// A clock: true time t with the signed amount o by which it is ahead.
+pub fn reading(t: u32, o: i32) -> u32
+    requires { ⌜ t ≤ 1000000000 ⌝ }
+    ensures { λ r. ⌜ r ≡ plus t o ⌝ }
+{
+    let n = magnitude(o);
+    if o < 0 {
+        return if n < t { t - n } else { 0 };
+    }
+    t + n
+}
+
+// An offset with a signed amount added.
+pub fn shifted(o: i32, e: i32) -> i32
+    requires { ⌜ (natAbs o ≤ 1000) × (natAbs e ≤ 2000) ⌝ }
+    ensures { λ r. ⌜ r ≡ o +ℤ e ⌝ }
+{
+    o + e
+}
+
+// A number of four bytes in two's complement.
+pub fn as_signed(x: u32) -> i32
+    ensures { λ r. ⌜ r ≡ signed x ⌝ }
+{
+    if x < 2147483648 {
+        x as i32
+    } else {
+        -1 - ((4294967295 - x) as i32)
+    }
+}
+
+// The rank of server j, of n, in the order of address a.
+pub fn rank_of(n: u32, a: u32, j: u32) -> u32
+    requires { ⌜ (1 ≤ n) × (n ≤ 4) × (j < 4) ⌝ }
+    ensures { λ r. ⌜ r ≡ rank n a j ⌝ }
+{
+    (j + (n - a % n)) % n
+}

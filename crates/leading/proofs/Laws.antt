@@ -1,0 +1,30 @@
+-- One turn more of the loops, and what they make of a server.
+use mathlib.Core.Path.{_≡_, refl, ap, _∙_}
+use mathlib.Core.Bool.{Bool}
+use mathlib.Core.List.{List}
+use Prim.Native.Nat.{ℕ, _+_}
+use native.Mathlib.Numerals.{add-one}
+use lib.ListN.{set}
+use Rattle.types.specs.declared.Config.{Config}
+use Rattle.types.specs.declared.Server.{Server}
+use Rattle.rules.specs.Conditions.{filled}
+use Rattle.rules.specs.Parts.{withLeading}
+use Rattle.rules.specs.Server.{leadsAfter, recordAfter, leadingWith}
+
+-- server k with the set b, done for the addresses below n
+pub led : Config → ℕ → ℕ → Server → List Bool → ℕ → Server
+led c k r s b n = withLeading s b (filled (leadsAfter c k r s b) n (s .leads)) (filled (recordAfter c k r s b) n (s .potlease))
+
+module _ (c : Config) (k r : ℕ) (s : Server) (b : List Bool) where
+  pub led-none : withLeading s b (s .leads) (s .potlease) ≡ led c k r s b 0
+  unfolding led filled
+  led-none = refl
+
+  pub led-more : (n : ℕ) (t : Server) (l : Bool) (v : ℕ) → t ≡ led c k r s b n → l ≡ leadsAfter c k r s b n → v ≡ recordAfter c k r s b n
+      → withLeading t (t .believed) (set (t .leads) n l) (set (t .potlease) n v) ≡ led c k r s b (n + 1)
+  unfolding led filled
+  led-more n t l v e p q = rw (add-one, e, p, q)
+
+  pub led-all : (n : ℕ) (t : Server) → n ≡ c .addresses → t ≡ led c k r s b n → t ≡ leadingWith c k r s b
+  unfolding led leadingWith
+  led-all n t h e = e ∙ ap (led c k r s b) h

@@ -1,0 +1,24 @@
+-- Laws of the rules' definitions that the proofs of the code cite: one turn more of a loop, and what is sent.
+use mathlib.Core.Path.{_≡_, ap}
+use Prim.Native.Nat.{ℕ, _+_}
+use native.Mathlib.Numerals.{add-one}
+use lib.ListN.{set}
+use Rattle.types.specs.declared.Reserved.{Reserved}
+use Rattle.types.specs.declared.Server.{Server}
+use Rattle.types.specs.declared.Outbox.{Outbox}
+use Rattle.rules.specs.Conditions.{filled}
+use Rattle.rules.specs.Parts.{reservedAt, withReserved}
+use Rattle.rules.specs.Messages.{nothing}
+use Rattle.rules.specs.Server.{freedIfOf}
+
+-- the server with the reservations of q dropped at the addresses below n
+abbrev pub droppedBelow : ℕ → Server → ℕ → Server
+droppedBelow q s n = withReserved s (filled (λ a. record { state = freedIfOf q (reservedAt s a) }) n (s .reserved))
+
+pub dropped-more : (q : ℕ) (s : Server) (n : ℕ) (t : Server) (x : Reserved) → t ≡ droppedBelow q s n → x ≡ freedIfOf q (reservedAt s n)
+    → withReserved t (set (t .reserved) n (record { state = x })) ≡ droppedBelow q s (n + 1)
+unfolding filled
+dropped-more q s n t x e d = rw (add-one, e, d)
+
+pub sent-nothing : (o : Outbox) → o ≡ nothing → o .count ≡ 0
+sent-nothing o e = ap (λ (x : Outbox). x .count) e

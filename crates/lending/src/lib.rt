@@ -1,0 +1,385 @@
+// What a server does with a message: c is the configuration, k the server's number, r its clock reading, s its value.
+// The message comes from party p in interaction q.
+use arith::both;
+use arith::larger;
+use outbox::nothing;
+use outbox::post;
+use outbox::to_others;
+use types::Body;
+use types::Config;
+use types::Message;
+use types::OpenWrite;
+use types::Outbox;
+use types::Pending;
+use types::Reservation;
+use types::Reserved;
+use types::Server;
+use types::ServerAnswer;
+ghost use mathlib.Core.Path.{_≡_};
+ghost use mathlib.Core.Bool.{true, false};
+ghost use Prim.Native.Nat.{_+_, _≤_, _<_, max};
+ghost use lib.ListN.{getD, set, replicate};
+ghost use Rattle.rules.specs.Conditions.{all, lowest};
+ghost use Rattle.rules.specs.Parts.{message, recordAt, withLease};
+ghost use Rattle.rules.specs.Messages.{nothing as nothingSent, post as posted, toOthers};
+ghost use Rattle.rules.specs.Server.{opened, expired, isFree, offerable, offers, onDiscover, granted, freedIfOf, dropped, grantable, grants, onRequest, onRenew, onWrite, matchesWrite, acknowledged, onWriteAck, closed as closedWrite};
+ghost use Rattle.rules.proofs.Kept.{Configured};
+
+// Whether the record for address a has passed by more than 2Δ.
+fn is_expired(c: Config, r: u32, s: Server, a: u32) -> bool
+    requires { ⌜ Configured c × (a < c .addresses) ⌝ }
+    ensures { λ x. ⌜ x ≡ expired c r s a ⌝ }
+{
+    let at = a as usize;
+    let v = s.potlease[at];
+    (v as u64) + ((2 * c.skew) as u64) < (r as u64)
+}
+
+fn is_free(x: Reserved) -> bool
+    ensures { λ r. ⌜ r ≡ isFree x ⌝ }
+{
+    match x {
+        Reserved::Free => true,
+        Reserved::Taken(_, _) => false,
+    }
+}
+
+// Whether address a may be offered: led, not reserved, and its record has passed.
+fn is_offerable(c: Config, r: u32, s: Server, a: u32) -> bool
+    requires { ⌜ Configured c × (a < c .addresses) ⌝ }
+    ensures { λ x. ⌜ x ≡ offerable c r s a ⌝ }
+{
+    let at = a as usize;
+    let reservation = s.reserved[at];
+    let state = reservation.state;
+    both(s.leads[at], both(is_free(state), is_expired(c, r, s, a)))
+}
+
+// The lowest address that may be offered, or the number of addresses where there is none.
+fn lowest_offerable(c: Config, r: u32, s: Server) -> u32
+    requires { ⌜ Configured c ⌝ }
+    ensures { λ a. ⌜ a ≡ lowest (offerable c r s) 0 (c .addresses) ⌝ }
+{
+    let n = c.addresses;
+    let mut a = 0;
+    while a < n {
+        if is_offerable(c, r, s, a) {
+            return a;
+        }
+        a += 1;
+    }
+    a
+}
+
+// Address a is reserved for q and offered.
+fn offer(c: Config, k: u32, r: u32, s: Server, p: u32, q: u32, a: u32) -> ServerAnswer
+    requires { ⌜ Configured c ⌝ }
+    ensures { λ x. ⌜ x ≡ offers c k r s p q a ⌝ }
+{
+    let none = nothing();
+    if a < c.addresses {
+        let at = a as usize;
+        let mut t = s;
+        t.reserved[at] = Reservation {
+            state: Reserved::Taken(q, r),
+        };
+        let m = Message {
+            sender: k,
+            receiver: p,
+            interaction: q,
+            body: Body::Offer(a),
+        };
+        let sent = post(none, m);
+        return ServerAnswer {
+            server: t,
+            outcome: 0,
+            outbox: sent,
+        };
+    }
+    ServerAnswer {
+        server: s,
+        outcome: 1,
+        outbox: none,
+    }
+}
+
+pub fn on_discover(c: Config, k: u32, r: u32, s: Server, p: u32, q: u32) -> ServerAnswer
+    requires { ⌜ Configured c ⌝ }
+    ensures { λ x. ⌜ x ≡ onDiscover c k r s p q ⌝ }
+{
+    let a = lowest_offerable(c, r, s);
+    offer(c, k, r, s, p, q, a)
+}
+
+// The server itself, alone.
+fn itself(k: u32) -> [bool; 4]
+    requires { ⌜ k < 4 ⌝ }
+    ensures { λ b. ⌜ b ≡ set (replicate 4 false) k true ⌝ }
+{
+    let at = k as usize;
+    let mut b = [false; 4];
+    b[at] = true;
+    b
+}
+
+// The server after lending address a until l in interaction q, with v for the others to record.
+fn lent(k: u32, s: Server, q: u32, a: u32, l: u32, v: u32) -> Server
+    requires { ⌜ (k < 4) × (a < 32) ⌝ }
+    ensures { λ t. ⌜ t ≡ withLease s a l (max (recordAt s a) v) (opened q v (set (replicate 4 false) k true)) ⌝ }
+{
+    let at = a as usize;
+    let acked = itself(k);
+    let mut t = s;
+    t.lent[at] = l;
+    t.potlease[at] = larger(s.potlease[at], v);
+    t.writes[at] = OpenWrite {
+        pending: Pending::Open(q, v),
+        acked: acked,
+    };
+    t
+}
+
+// The ack with the lent end, then the writes to every other server.
+fn lease_messages(c: Config, k: u32, p: u32, q: u32, a: u32, l: u32, v: u32) -> Outbox
+    requires { ⌜ c .servers ≤ 4 ⌝ }
+    ensures { λ o. ⌜ o ≡ toOthers k (λ j. message k j q (Body.Write a v)) (c .servers) (posted nothingSent (message k p q (Body.Ack a l))) ⌝ }
+{
+    let none = nothing();
+    let ack = Message {
+        sender: k,
+        receiver: p,
+        interaction: q,
+        body: Body::Ack(a, l),
+    };
+    let first = post(none, ack);
+    let write = Message {
+        sender: k,
+        receiver: 0,
+        interaction: q,
+        body: Body::Write(a, v),
+    };
+    to_others(k, write, c.servers, first)
+}
+
+// Address a is lent until l, and t was wanted.
+fn grant(c: Config, k: u32, s: Server, p: u32, q: u32, a: u32, t: u32, l: u32) -> ServerAnswer
+    requires { ⌜ Configured c × (k < c .servers) × (a < c .addresses) ⌝ }
+    ensures { λ x. ⌜ x ≡ granted c k s p q a t l ⌝ }
+{
+    let v = larger(t, l);
+    let after = lent(k, s, q, a, l, v);
+    let sent = lease_messages(c, k, p, q, a, l, v);
+    ServerAnswer {
+        server: after,
+        outcome: 0,
+        outbox: sent,
+    }
+}
+
+// A reservation, free if it is one of q.
+fn freed_if_of(q: u32, x: Reserved) -> Reserved
+    ensures { λ r. ⌜ r ≡ freedIfOf q x ⌝ }
+{
+    match x {
+        Reserved::Free => Reserved::Free,
+        Reserved::Taken(own, at) => if own == q {
+            Reserved::Free
+        } else {
+            Reserved::Taken(own, at)
+        },
+    }
+}
+
+// Reservations of q are dropped.
+fn drop_reservations(c: Config, q: u32, s: Server) -> Server
+    requires { ⌜ c .addresses ≤ 32 ⌝ }
+    ensures { λ t. ⌜ t ≡ dropped c q s ⌝ }
+{
+    let n = c.addresses;
+    let mut t = s;
+    let mut a = 0;
+    while a < n {
+        let at = a as usize;
+        let reservation = s.reserved[at];
+        let state = reservation.state;
+        let kept = freed_if_of(q, state);
+        t.reserved[at] = Reservation { state: kept };
+        a += 1;
+    }
+    t
+}
+
+// A request, after reservations of its interaction are dropped.
+fn answer_request(
+    c: Config,
+    k: u32,
+    r: u32,
+    s: Server,
+    p: u32,
+    q: u32,
+    a: u32,
+    t: u32,
+) -> ServerAnswer
+    requires { ⌜ Configured c × (k < c .servers) × (a < c .addresses) × (r ≤ 1000001000) ⌝ }
+    ensures { λ x. ⌜ x ≡ grants c k r s p q a t ⌝ }
+{
+    let at = a as usize;
+    if both(s.leads[at], is_expired(c, r, s, a)) {
+        return grant(c, k, s, p, q, a, t, r + c.mclt);
+    }
+    let none = nothing();
+    ServerAnswer {
+        server: s,
+        outcome: 1,
+        outbox: none,
+    }
+}
+
+pub fn on_request(
+    c: Config,
+    k: u32,
+    r: u32,
+    s: Server,
+    p: u32,
+    q: u32,
+    a: u32,
+    t: u32,
+) -> ServerAnswer
+    requires { ⌜ Configured c × (k < c .servers) × (a < c .addresses) × (r ≤ 1000001000) ⌝ }
+    ensures { λ x. ⌜ x ≡ onRequest c k r s p q a t ⌝ }
+{
+    let kept = drop_reservations(c, q, s);
+    answer_request(c, k, r, kept, p, q, a, t)
+}
+
+// A renewal of address a with the old end e.
+pub fn on_renew(
+    c: Config,
+    k: u32,
+    r: u32,
+    s: Server,
+    p: u32,
+    q: u32,
+    a: u32,
+    e: u32,
+    t: u32,
+) -> ServerAnswer
+    requires { ⌜ Configured c × (k < c .servers) × (a < c .addresses) × (r ≤ 1000001000) ⌝ }
+    ensures { λ x. ⌜ x ≡ onRenew c k r s p q a e t ⌝ }
+{
+    let at = a as usize;
+    if both(s.leads[at], r <= e) {
+        let l = larger(r + c.mclt, s.lent[at]);
+        return grant(c, k, s, p, q, a, t, l);
+    }
+    let none = nothing();
+    ServerAnswer {
+        server: s,
+        outcome: 1,
+        outbox: none,
+    }
+}
+
+pub fn on_write(k: u32, s: Server, p: u32, q: u32, a: u32, v: u32) -> ServerAnswer
+    requires { ⌜ a < 32 ⌝ }
+    ensures { λ x. ⌜ x ≡ onWrite k s p q a v ⌝ }
+{
+    let at = a as usize;
+    let mut t = s;
+    t.potlease[at] = larger(s.potlease[at], v);
+    let none = nothing();
+    let m = Message {
+        sender: k,
+        receiver: p,
+        interaction: q,
+        body: Body::WriteAck(a, v),
+    };
+    let sent = post(none, m);
+    ServerAnswer {
+        server: t,
+        outcome: 0,
+        outbox: sent,
+    }
+}
+
+// Whether the open write is that of q and v.
+fn is_match(q: u32, v: u32, x: Pending) -> bool
+    ensures { λ r. ⌜ r ≡ matchesWrite q v x ⌝ }
+{
+    match x {
+        Pending::Closed => false,
+        Pending::Open(own, end) => both(q == own, v == end),
+    }
+}
+
+// Whether all of the first n servers are in.
+fn are_all_in(acked: [bool; 4], n: u32) -> bool
+    requires { ⌜ n ≤ 4 ⌝ }
+    ensures { λ r. ⌜ r ≡ all (λ j. getD acked j false) n ⌝ }
+{
+    let mut ok = true;
+    let mut j = 0;
+    while j < n {
+        let at = j as usize;
+        ok = both(acked[at], ok);
+        j += 1;
+    }
+    ok
+}
+
+// No open write.
+pub fn closed() -> OpenWrite
+    ensures { λ w. ⌜ w ≡ closedWrite ⌝ }
+{
+    OpenWrite {
+        pending: Pending::Closed,
+        acked: [false; 4],
+    }
+}
+
+// The server when the write of q and v has these acks.
+fn acknowledge(c: Config, s: Server, q: u32, a: u32, v: u32, acked: [bool; 4]) -> Server
+    requires { ⌜ (c .servers ≤ 4) × (a < 32) ⌝ }
+    ensures { λ t. ⌜ t ≡ acknowledged c s q a v acked ⌝ }
+{
+    let at = a as usize;
+    let mut t = s;
+    let l = s.lent[at];
+    if are_all_in(acked, c.servers) {
+        t.lent[at] = larger(l, v);
+        t.writes[at] = closed();
+        return t;
+    }
+    t.lent[at] = l;
+    t.writes[at] = OpenWrite {
+        pending: Pending::Open(q, v),
+        acked: acked,
+    };
+    t
+}
+
+pub fn on_write_ack(c: Config, s: Server, p: u32, q: u32, a: u32, v: u32) -> ServerAnswer
+    requires { ⌜ (c .servers ≤ 4) × (a < 32) × (p < 4) ⌝ }
+    ensures { λ x. ⌜ x ≡ onWriteAck c s p q a v ⌝ }
+{
+    let at = a as usize;
+    let from = p as usize;
+    let none = nothing();
+    let w = s.writes[at];
+    let pending = w.pending;
+    if both(s.leads[at], is_match(q, v, pending)) {
+        let mut acked = w.acked;
+        acked[from] = true;
+        let t = acknowledge(c, s, q, a, v, acked);
+        return ServerAnswer {
+            server: t,
+            outcome: 0,
+            outbox: none,
+        };
+    }
+    ServerAnswer {
+        server: s,
+        outcome: 1,
+        outbox: none,
+    }
+}

@@ -1,0 +1,86 @@
+-- Nobody sends more than four messages at once, as many as an outbox holds.
+use mathlib.Core.Bool.{Bool, true, false, cond}
+use Prim.Native.Nat.{ℕ, _≤_, _<_}
+use native.Mathlib.Omega.{arith}
+use lib.Dec.{leb, ltb, eqb}
+use Rattle.types.specs.declared.Config.{Config}
+use Rattle.types.specs.declared.Server.{Server}
+use Rattle.types.specs.declared.State.{State}
+use Rattle.types.specs.declared.State.the-variants.{Idle, Asking, Offered, Waiting, Holding}
+use Rattle.types.specs.declared.Body.{Body}
+use Rattle.types.specs.declared.Body.the-variants.{Empty, Discover, Offer, Request, Renew, Write, WriteAck, Ack}
+use Rattle.types.specs.declared.Message.{Message}
+use Rattle.types.specs.declared.ServerAnswer.{ServerAnswer}
+use Rattle.types.specs.declared.ClientAnswer.{ClientAnswer}
+use Rattle.rules.specs.Conditions.{_and_}
+use Rattle.rules.specs.Parts.{message, clientParty, leadsAt, writeAt}
+use Rattle.rules.specs.Messages.{nothing, post}
+use Rattle.rules.specs.Server.{writtenEnd, ackEnd, offers, onDiscover, granted, dropped, grantable, grants, onRequest, onRenew, onWrite, matchesWrite, onWriteAck, serverHandles, serverReceives}
+use Rattle.rules.specs.Client.{isHolding, broadcast, discovers, requests, renews, asksWith, onOffer, expects, onAck, clientHandles, clientReceives}
+use Rattle.rules.proofs.Laws.{cond-case}
+use Rattle.rules.proofs.Cable.{servers-count, others-count}
+
+abbrev Few : ServerAnswer → Type 0
+Few x = x .outbox .count ≤ 4
+
+module _ (c : Config) (k : ℕ) (few : c .servers ≤ 4) (hk : k < c .servers) where
+  few-granted : (s : Server) (p q a t l : ℕ) → Few (granted c k s p q a t l)
+  unfolding granted
+  few-granted s p q a t l =
+      omega (arith, others-count k (λ j. message k j q (Write a (writtenEnd t l))) (post nothing (message k p q (Ack a (ackEnd t l)))) (c .servers) hk)
+
+  few-body : (r : ℕ) (s : Server) (p q : ℕ) (b : Body) → Few (serverHandles c k r s p q b)
+  unfolding serverHandles onDiscover offers onRequest grants dropped onRenew onWrite onWriteAck
+  few-body r s p q Empty = omega arith
+  few-body r s p q Discover = cond-case Few (ltb _ (c .addresses)) _ _ (λ _. omega arith) (λ _. omega arith)
+  few-body r s p q (Offer a) = omega arith
+  few-body r s p q (Request a t) = cond-case Few (grantable c r (dropped c q s) a) _ _ (λ _. few-granted _ p q a t _) (λ _. omega arith)
+  few-body r s p q (Renew a e t) = cond-case Few (leadsAt s a and leb r e) _ _ (λ _. few-granted s p q a t _) (λ _. omega arith)
+  few-body r s p q (Write a v) = omega arith
+  few-body r s p q (WriteAck a v) = cond-case Few (leadsAt s a and matchesWrite q v ((writeAt s a) .pending)) _ _ (λ _. omega arith) (λ _. omega arith)
+  few-body r s p q (Ack a e) = omega arith
+
+  pub few-received : (r : ℕ) (s : Server) (m : Message) → (serverReceives c k r s m) .outbox .count ≤ 4
+  unfolding serverReceives
+  few-received r s m = cond-case Few (s .alive) _ _ (λ _. few-body r s (m .sender) (m .interaction) (m .body)) (λ _. omega arith)
+
+abbrev FewSent : ClientAnswer → Type 0
+FewSent x = x .outbox .count ≤ 4
+
+module _ (c : Config) (i : ℕ) (few : c .servers ≤ 4) where
+  few-broadcast : (q : ℕ) (b : Body) → (broadcast c i q b) .count ≤ 4
+  few-broadcast q b = omega (arith, servers-count (λ j. false) (λ j. message (clientParty c i) j q b) nothing (c .servers))
+
+  pub few-discovers : (x : State) (q : ℕ) → (discovers c i x q) .outbox .count ≤ 4
+  unfolding discovers
+  few-discovers x q = cond-case FewSent (isHolding x) _ _ (λ _. omega arith) (λ _. few-broadcast q Discover)
+
+  pub few-requests : (x : State) (t : ℕ) → (requests c i x t) .outbox .count ≤ 4
+  unfolding requests
+  few-requests Idle t = omega arith
+  few-requests (Asking q) t = omega arith
+  few-requests (Offered q a) t = few-broadcast q (Request a t)
+  few-requests (Waiting q a) t = omega arith
+  few-requests (Holding a e q) t = omega arith
+
+  pub few-renews : (x : State) (t n : ℕ) → (renews c i x t n) .outbox .count ≤ 4
+  unfolding renews
+  few-renews Idle t n = omega arith
+  few-renews (Asking q) t n = omega arith
+  few-renews (Offered q a) t n = omega arith
+  few-renews (Waiting q a) t n = omega arith
+  few-renews (Holding a e q) t n = few-broadcast n (Renew a e t)
+
+pub few-replied : (r : ℕ) (x : State) (m : Message) → (clientReceives r x m) .outbox .count ≤ 4
+unfolding clientHandles onOffer onAck
+few-replied r x m = go (m .body)
+  where
+    go : (b : Body) → FewSent (clientHandles r x (m .interaction) b)
+    go Empty = omega arith
+    go Discover = omega arith
+    go (Offer a) = cond-case FewSent (asksWith x (m .interaction)) _ _ (λ _. omega arith) (λ _. omega arith)
+    go (Request a t) = omega arith
+    go (Renew a e t) = omega arith
+    go (Write a v) = omega arith
+    go (WriteAck a v) = omega arith
+    go (Ack a e) = cond-case FewSent (expects x (m .interaction) a and ltb r e) _ _ (λ _. omega arith) (λ _. omega arith)
