@@ -95,6 +95,9 @@ pub all-more : (p : ℕ → Bool) (n : ℕ) (x y z : Bool) → x ≡ p n → y �
 unfolding all
 all-more p n x y z e h q = rw add-one (rw (← e, ← h) q)
 
+pub all-done : (p : ℕ → Bool) (i n : ℕ) (ok : Bool) → i ≡ n → ok ≡ all p i → ok ≡ all p n
+all-done p i n ok h e = e ∙ ap (all p) h
+
 -- the search for the lowest number, at i of n
 module _ (p : ℕ → Bool) (i n : ℕ) where
   one-more : i < n → n - i ≡ suc (n - (i + 1))

@@ -14,3 +14,4 @@ pub mod Invariant
 pub mod Safety
 pub mod Refusals
 pub mod Counts
+pub mod Actions

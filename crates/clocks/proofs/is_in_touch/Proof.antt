@@ -1,0 +1,61 @@
+use mathlib.Core.Path.{_≡_, refl}
+use mathlib.Core.Bool.{not}
+use Prim.Native.Nat.{_+_, _-_, _≤_}
+use native.Mathlib.Omega.{arith}
+use lib.Dec.{eqb, leb}
+use borrow.Author.Needs.{needs}
+use Rattle.rules.specs.Conditions.{_or_, all}
+use Rattle.rules.specs.Parts.{noticeAt, serverAt}
+use Rattle.rules.specs.Steps.{inTouch}
+use Rattle.rules.proofs.Laws.{all-more, all-done}
+use Rattle.clocks.proofs.is_in_touch.Statement.{statement}
+use Rattle.clocks.proofs.is_in_touch.Tie as tie
+
+abbrev Inv-loop : tie.InvT-loop
+Inv-loop f d now count ok₀ k₀ ok k =
+    (k ≤ count) × (count ≤ 4)
+    × (ok ≡ all (λ i. not ((serverAt f i) .alive) or all (λ j. eqb j i or leb now (noticeAt f i j + f .config .silence)) (f .config .servers)) k)
+
+abbrev μ-loop : tie.MeasureT-loop
+μ-loop f d now count ok₀ k₀ ok k = count - k
+
+add-now : tie.Need-add-now Inv-loop μ-loop
+add-now c = omega arith
+
+loop-holds : tie.Need-loop-holds Inv-loop μ-loop
+unfolding all
+loop-holds c = (omega arith, omega arith, refl)
+
+is-heard-by-requires : tie.Need-is-heard-by-requires Inv-loop μ-loop
+is-heard-by-requires c κs = omega arith
+
+both-requires : tie.Need-both-requires Inv-loop μ-loop
+both-requires c κs = search needs
+
+add-k : tie.Need-add-k Inv-loop μ-loop
+add-k c = omega arith
+
+loop-less : tie.Need-loop-less Inv-loop μ-loop
+loop-less c = omega arith
+
+loop-again : tie.Need-loop-again Inv-loop μ-loop
+loop-again c = (omega arith, omega arith, all-more _ _ _ _ _ (c .before .is-heard-by .ensures) (c .before .before .before .loop .inv .2) (c .both .ensures))
+
+returns : tie.Need-returns Inv-loop μ-loop
+unfolding inTouch
+returns c = λ p e. all-done _ _ _ _ (omega arith) (c .before .loop .inv .2)
+
+pub is-in-touch-spec : {M : Type 1} → statement M
+is-in-touch-spec =
+    tie.close
+    (tie.spec
+    Inv-loop
+    μ-loop
+    add-now
+    loop-holds
+    is-heard-by-requires
+    both-requires
+    add-k
+    loop-less
+    loop-again
+    returns)

@@ -1,0 +1,51 @@
+use Prim.Native.Nat.{_+_}
+use Rattle.rules.specs.Parts.{withTime}
+use Rattle.arith.proofs.Signs.{sum-fits}
+use mathlib.Core.Path.{_≡_, ap, _∙_}
+use mir.Syntax.{w32}
+use mir.Val.{SFits}
+use mir.Facts.{toZ-ofZ}
+use lib.IntN.{ℤ, pos, _+ℤ_}
+use lib.ListN.{getD, set}
+use borrow.Author.Needs.{needs}
+use Rattle.clocks.proofs.move_on.Statement.{statement}
+use Rattle.clocks.proofs.move_on.Tie as tie
+
+add-g : tie.Need-add-g
+add-g c = search needs
+
+mul-shifted : tie.Need-mul-shifted
+mul-shifted c = search needs
+
+element-copy-out-shifted : tie.Need-element-copy-out-shifted
+element-copy-out-shifted c = search needs
+
+shifted-requires : tie.Need-shifted-requires
+shifted-requires c κs = search needs
+
+mul-t16 : tie.Need-mul-t16
+mul-t16 c = search needs
+
+element-set-from-g : tie.Need-element-set-from-g
+element-set-from-g c = search needs
+
+returns : tie.Need-returns
+returns c =
+    let s = c .before .before in
+    let a = s .args in
+    let h : SFits w32 (getD (a .t1 .offsets) (a .p) (pos 0)) = search needs in
+    let sum : c .shifted .result ≡ getD (a .t1 .offsets) (a .p) (pos 0) +ℤ a .e = c .shifted .ensures ∙ rw (toZ-ofZ h, toZ-ofZ (s .fits .e)) in
+    let fit : SFits w32 (c .shifted .result) = rw sum (sum-fits (getD (a .t1 .offsets) (a .p) (pos 0)) (a .e) (s .pre .2) (s .pre .3)) in
+    ap (λ (o : ℤ). withTime (a .t1) (a .t1 .time + a .d) (set (a .t1 .offsets) (a .p) o)) (toZ-ofZ fit ∙ sum)
+
+pub move-on-spec : {M : Type 1} → statement M
+move-on-spec =
+    tie.close
+    (tie.spec
+    add-g
+    mul-shifted
+    element-copy-out-shifted
+    shifted-requires
+    mul-t16
+    element-set-from-g
+    returns)

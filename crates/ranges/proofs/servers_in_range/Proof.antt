@@ -1,0 +1,64 @@
+use mathlib.Core.Path.{_≡_, refl, ap, _∙_}
+use Prim.Native.Nat.{_-_, _≤_}
+use native.Mathlib.Omega.{arith}
+use borrow.Author.Needs.{needs}
+use Rattle.rules.specs.Conditions.{all}
+use Rattle.rules.specs.Parts.{serverAt}
+use Rattle.rules.specs.Ranges.{serverInRange}
+use Rattle.rules.proofs.Laws.{all-more}
+use Rattle.ranges.proofs.servers_in_range.Statement.{statement}
+use Rattle.ranges.proofs.servers_in_range.Tie as tie
+
+abbrev Inv-loop : tie.InvT-loop
+Inv-loop f c count ok₀ k₀ ok k = (k ≤ count) × (ok ≡ all (λ j. serverInRange (f .config) (f .time) (f .next) (serverAt f j)) k)
+
+abbrev μ-loop : tie.MeasureT-loop
+μ-loop f c count ok₀ k₀ ok k = count - k
+
+loop-holds : tie.Need-loop-holds Inv-loop μ-loop
+unfolding all
+loop-holds c = (omega arith, refl)
+
+cast-at : tie.Need-cast-at Inv-loop μ-loop
+cast-at c = omega arith
+
+mul-s : tie.Need-mul-s Inv-loop μ-loop
+mul-s c = omega arith
+
+element-copy-out-s : tie.Need-element-copy-out-s Inv-loop μ-loop
+element-copy-out-s c = omega arith
+
+server-in-range-requires : tie.Need-server-in-range-requires Inv-loop μ-loop
+server-in-range-requires c κs = search needs
+
+both-requires : tie.Need-both-requires Inv-loop μ-loop
+both-requires c κs = search needs
+
+add-k : tie.Need-add-k Inv-loop μ-loop
+add-k c = omega arith
+
+loop-less : tie.Need-loop-less Inv-loop μ-loop
+loop-less c = omega arith
+
+loop-again : tie.Need-loop-again Inv-loop μ-loop
+loop-again c = (omega arith, all-more _ _ _ _ _ (c .before .server-in-range .ensures) (c .before .before .before .before .loop .inv .1) (c .both .ensures))
+
+returns : tie.Need-returns Inv-loop μ-loop
+returns c = c .before .loop .inv .1 ∙ ap (all _) (omega arith)
+
+pub servers-in-range-spec : {M : Type 1} → statement M
+servers-in-range-spec =
+    tie.close
+    (tie.spec
+    Inv-loop
+    μ-loop
+    loop-holds
+    cast-at
+    mul-s
+    element-copy-out-s
+    server-in-range-requires
+    both-requires
+    add-k
+    loop-less
+    loop-again
+    returns)
