@@ -30,7 +30,7 @@ use Rattle.rules.proofs.Granting as Granting
 use Rattle.rules.proofs.Holding as Holding
 
 -- a message that is not for a server is for a client
-for-client : (c : Config) (from to : ℕ) (b : Body) → T (bodyInRange c from to b) → T (not (isServer c to)) → to < parties c
+pub for-client : (c : Config) (from to : ℕ) (b : Body) → T (bodyInRange c from to b) → T (not (isServer c to)) → to < parties c
 unfolding bodyInRange isClient
 for-client c from to Empty t n = absurd t
 for-client c from to Discover t n = clash (isServer c to) (and-r _ _ t) n

@@ -45,7 +45,7 @@ faulty f = row f (cleanup 0) 2
 -- Changes to a facade, from left to right.
 
 infixl 4 _▷_
-_▷_ : Facade → (Facade → Facade) → Facade
+unfoldable pub _▷_ : Facade → (Facade → Facade) → Facade
 f ▷ g = g f
 
 -- true time t, at which all had their notices
@@ -111,7 +111,7 @@ mixed : ℕ → Message → Facade → Facade
 mixed p m f = withMessages f (set (replicate 128 write) p m) 8
 
 -- a signed field: −n
-minus : ℕ → ℕ
+unfoldable pub minus : ℕ → ℕ
 minus n = 4294967296 - n
 
 -- the last end and the last clock reading in range

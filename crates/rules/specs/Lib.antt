@@ -10,3 +10,4 @@ pub mod Client
 pub mod Steps
 pub mod Examples
 pub mod Edges
+pub mod Effects

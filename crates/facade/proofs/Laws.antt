@@ -1,0 +1,339 @@
+-- What each step answers, by its tests: the refusals of `rules` for each kind, with the tests that the kind passes anyway left out.
+use mathlib.Core.Path.{_≡_, refl, sym, ap, _∙_}
+use mathlib.Core.Bool.{Bool, true, false, not, cond}
+use Prim.Native.Nat.{ℕ, _+_, _*_, _≤_, _<_}
+use native.Mathlib.Omega.{arith}
+use borrow.Author.Tests.{not-true, not-false}
+use lib.Dec.{T, leb, ltb, eqb, leb→le, ltb→lt}
+use lib.IntN.{ℤ, natAbs}
+use lib.ListN.{set}
+use Rattle.types.specs.declared.Config.{Config}
+use Rattle.types.specs.declared.Server.{Server}
+use Rattle.types.specs.declared.ServerAnswer.{ServerAnswer}
+use Rattle.types.specs.declared.Step.{Step}
+use Rattle.types.specs.declared.Facade.{Facade}
+use Rattle.types.specs.declared.Answer.{Answer}
+use Rattle.types.specs.declared.ClientAnswer.{ClientAnswer}
+use Rattle.rules.specs.Conditions.{_and_, within}
+use Rattle.rules.specs.Clock.{signed}
+use Rattle.rules.specs.Parts.{serverAt, stateAt, offsetAt, clock, parties, withNotices, withNext}
+use Rattle.rules.specs.Ranges.{inRange, offsetInRange, mostWaiting}
+use Rattle.rules.specs.Client.{isOffered, isHolding, discovers, requests, renews}
+use Rattle.rules.specs.Server.{noticed}
+use Rattle.rules.specs.Steps.{Action, pass, fail, return, notice, discover, request, renew, deliver, lose, cleanup, unknown, isKnown, fieldsInRange, exists, stateAllows, ofPass, timeLeft, clockAllows, inTouch, ofNotice, isCredible, interactionLeft, accepted, refused, serverActs, moved, lapse, effect, action, answerTo, clientActs}
+use Rattle.rules.proofs.Laws.{and-l, and-r, within-high}
+use Rattle.rules.proofs.Kept.{Configured, configured, ranged}
+use Rattle.rules.proofs.Leadership.{clock-high}
+use Rattle.rules.proofs.Actions.{action-pass, action-notice, action-request, action-renew}
+use Rattle.rules.proofs.Refusals.{refused-4, refused-5, refused-6, refused-7, refused-8, refused-9, refused-10, refused-11, refused-12, unless-full}
+
+pub true-of : (b : Bool) → T b → b ≡ true
+true-of true t = refl
+true-of false t = absurd t
+
+-- the answer y is the effect, and the last test was made on it
+abbrev pub Last : Facade → Action → Answer → Type 0
+Last f x r = (y : Answer) → r ≡ cond (leb (y .facade .waiting) mostWaiting) y (refused f 13) → y ≡ effect f x → r ≡ answerTo f x
+
+last : (f : Facade) (x : Action) (r : Answer) → cond (leb ((effect f x) .facade .waiting) mostWaiting) (effect f x) (refused f 13) ≡ answerTo f x → Last f x r
+last f x r h y e q = e ∙ ap (λ (z : Answer). cond (leb (z .facade .waiting) mostWaiting) z (refused f 13)) q ∙ h
+
+module _ (f : Facade) (t : T (inRange f)) where
+  e₂ : inRange f ≡ true
+  e₂ = true-of (inRange f) t
+
+  -- a step of one server: fail, return, cleanup
+  module _ (k : ℕ) where
+    pub fail-6 : ltb k (f .config .servers) ≡ false → refused f 6 ≡ answerTo f (fail k)
+    unfolding isKnown fieldsInRange exists
+    fail-6 e = refused-6 f (fail k) e₂ refl refl e
+
+    module _ (e₆ : ltb k (f .config .servers) ≡ true) where
+      pub fail-7 : (serverAt f k) .alive ≡ false → refused f 7 ≡ answerTo f (fail k)
+      unfolding isKnown fieldsInRange exists stateAllows
+      fail-7 e = refused-7 f (fail k) e₂ refl refl e₆ e
+
+      pub fail-last : (serverAt f k) .alive ≡ true → (r : Answer) → Last f (fail k) r
+      unfolding isKnown fieldsInRange exists stateAllows ofPass ofNotice interactionLeft
+      fail-last e r = last f (fail k) r (unless-full f (fail k) e₂ refl refl e₆ e refl refl refl refl refl)
+
+    pub return-6 : ltb k (f .config .servers) ≡ false → refused f 6 ≡ answerTo f (return k)
+    unfolding isKnown fieldsInRange exists
+    return-6 e = refused-6 f (return k) e₂ refl refl e
+
+    module _ (e₆ : ltb k (f .config .servers) ≡ true) where
+      pub return-7 : (serverAt f k) .alive ≡ true → refused f 7 ≡ answerTo f (return k)
+      unfolding isKnown fieldsInRange exists stateAllows
+      return-7 e = refused-7 f (return k) e₂ refl refl e₆ (ap not e)
+
+      pub return-last : (serverAt f k) .alive ≡ false → (r : Answer) → Last f (return k) r
+      unfolding isKnown fieldsInRange exists stateAllows ofPass ofNotice interactionLeft
+      return-last e r = last f (return k) r (unless-full f (return k) e₂ refl refl e₆ (ap not e) refl refl refl refl refl)
+
+    pub cleanup-6 : ltb k (f .config .servers) ≡ false → refused f 6 ≡ answerTo f (cleanup k)
+    unfolding isKnown fieldsInRange exists
+    cleanup-6 e = refused-6 f (cleanup k) e₂ refl refl e
+
+    module _ (e₆ : ltb k (f .config .servers) ≡ true) where
+      pub cleanup-7 : (serverAt f k) .alive ≡ false → refused f 7 ≡ answerTo f (cleanup k)
+      unfolding isKnown fieldsInRange exists stateAllows
+      cleanup-7 e = refused-7 f (cleanup k) e₂ refl refl e₆ e
+
+      pub cleanup-last : (serverAt f k) .alive ≡ true → (r : Answer) → Last f (cleanup k) r
+      unfolding isKnown fieldsInRange exists stateAllows ofPass ofNotice interactionLeft
+      cleanup-last e r = last f (cleanup k) r (unless-full f (cleanup k) e₂ refl refl e₆ e refl refl refl refl refl)
+
+  -- a step of a client: discover, request, renew
+  module _ (i : ℕ) where
+    pub discover-6 : ltb i (f .config .clients) ≡ false → refused f 6 ≡ answerTo f (discover i)
+    unfolding isKnown fieldsInRange exists
+    discover-6 e = refused-6 f (discover i) e₂ refl refl e
+
+    module _ (e₆ : ltb i (f .config .clients) ≡ true) where
+      pub discover-7 : isHolding (stateAt f i) ≡ true → refused f 7 ≡ answerTo f (discover i)
+      unfolding isKnown fieldsInRange exists stateAllows
+      discover-7 e = refused-7 f (discover i) e₂ refl refl e₆ (ap not e)
+
+      module _ (e₇ : isHolding (stateAt f i) ≡ false) where
+        pub discover-12 : leb (f .next) 1000000 ≡ false → refused f 12 ≡ answerTo f (discover i)
+        unfolding isKnown fieldsInRange exists stateAllows ofPass ofNotice interactionLeft
+        discover-12 e = refused-12 f (discover i) e₂ refl refl e₆ (ap not e₇) refl refl refl refl e
+
+        pub discover-last : leb (f .next) 1000000 ≡ true → (r : Answer) → Last f (discover i) r
+        unfolding isKnown fieldsInRange exists stateAllows ofPass ofNotice interactionLeft
+        discover-last e r = last f (discover i) r (unless-full f (discover i) e₂ refl refl e₆ (ap not e₇) refl refl refl refl e)
+
+    module _ (w : ℕ) where
+      pub request-5 : fieldsInRange (request i w) ≡ false → refused f 5 ≡ answerTo f (request i w)
+      unfolding isKnown
+      request-5 e = refused-5 f (request i w) e₂ refl e
+
+      pub renew-5 : fieldsInRange (renew i w) ≡ false → refused f 5 ≡ answerTo f (renew i w)
+      unfolding isKnown
+      renew-5 e = refused-5 f (renew i w) e₂ refl e
+
+      module _ (e₅ : fieldsInRange (request i w) ≡ true) where
+        pub request-6 : ltb i (f .config .clients) ≡ false → refused f 6 ≡ answerTo f (request i w)
+        unfolding isKnown exists
+        request-6 e = refused-6 f (request i w) e₂ refl e₅ e
+
+        module _ (e₆ : ltb i (f .config .clients) ≡ true) where
+          pub request-7 : isOffered (stateAt f i) ≡ false → refused f 7 ≡ answerTo f (request i w)
+          unfolding isKnown exists stateAllows
+          request-7 e = refused-7 f (request i w) e₂ refl e₅ e₆ e
+
+          pub request-last : isOffered (stateAt f i) ≡ true → (r : Answer) → Last f (request i w) r
+          unfolding isKnown exists stateAllows ofPass ofNotice interactionLeft
+          request-last e r = last f (request i w) r (unless-full f (request i w) e₂ refl e₅ e₆ e refl refl refl refl refl)
+
+      module _ (e₅ : fieldsInRange (renew i w) ≡ true) where
+        pub renew-6 : ltb i (f .config .clients) ≡ false → refused f 6 ≡ answerTo f (renew i w)
+        unfolding isKnown exists
+        renew-6 e = refused-6 f (renew i w) e₂ refl e₅ e
+
+        module _ (e₆ : ltb i (f .config .clients) ≡ true) where
+          pub renew-7 : isHolding (stateAt f i) ≡ false → refused f 7 ≡ answerTo f (renew i w)
+          unfolding isKnown exists stateAllows
+          renew-7 e = refused-7 f (renew i w) e₂ refl e₅ e₆ e
+
+          module _ (e₇ : isHolding (stateAt f i) ≡ true) where
+            pub renew-12 : leb (f .next) 1000000 ≡ false → refused f 12 ≡ answerTo f (renew i w)
+            unfolding isKnown exists stateAllows ofPass ofNotice interactionLeft
+            renew-12 e = refused-12 f (renew i w) e₂ refl e₅ e₆ e₇ refl refl refl refl e
+
+            pub renew-last : leb (f .next) 1000000 ≡ true → (r : Answer) → Last f (renew i w) r
+            unfolding isKnown exists stateAllows ofPass ofNotice interactionLeft
+            renew-last e r = last f (renew i w) r (unless-full f (renew i w) e₂ refl e₅ e₆ e₇ refl refl refl refl e)
+
+  -- deliver and lose
+  module _ (p : ℕ) where
+    pub lose-6 : ltb p (f .waiting) ≡ false → refused f 6 ≡ answerTo f (lose p)
+    unfolding isKnown fieldsInRange exists
+    lose-6 e = refused-6 f (lose p) e₂ refl refl e
+
+    pub lose-last : ltb p (f .waiting) ≡ true → (r : Answer) → Last f (lose p) r
+    unfolding isKnown fieldsInRange exists stateAllows ofPass ofNotice interactionLeft
+    lose-last e r = last f (lose p) r (unless-full f (lose p) e₂ refl refl e refl refl refl refl refl refl)
+
+    module _ (keep : ℕ) where
+      pub deliver-5 : fieldsInRange (deliver p keep) ≡ false → refused f 5 ≡ answerTo f (deliver p keep)
+      unfolding isKnown
+      deliver-5 e = refused-5 f (deliver p keep) e₂ refl e
+
+      module _ (e₅ : fieldsInRange (deliver p keep) ≡ true) where
+        pub deliver-6 : ltb p (f .waiting) ≡ false → refused f 6 ≡ answerTo f (deliver p keep)
+        unfolding isKnown exists
+        deliver-6 e = refused-6 f (deliver p keep) e₂ refl e₅ e
+
+        pub deliver-last : ltb p (f .waiting) ≡ true → (r : Answer) → Last f (deliver p keep) r
+        unfolding isKnown exists stateAllows ofPass ofNotice interactionLeft
+        deliver-last e r = last f (deliver p keep) r (unless-full f (deliver p keep) e₂ refl e₅ e refl refl refl refl refl refl)
+
+  -- notice
+  module _ (k j says : ℕ) where
+    pub notice-5 : fieldsInRange (notice k j says) ≡ false → refused f 5 ≡ answerTo f (notice k j says)
+    unfolding isKnown
+    notice-5 e = refused-5 f (notice k j says) e₂ refl e
+
+    module _ (e₅ : fieldsInRange (notice k j says) ≡ true) where
+      pub notice-6 : exists f (notice k j says) ≡ false → refused f 6 ≡ answerTo f (notice k j says)
+      unfolding isKnown
+      notice-6 e = refused-6 f (notice k j says) e₂ refl e₅ e
+
+      module _ (e₆ : exists f (notice k j says) ≡ true) where
+        pub notice-7 : (serverAt f k) .alive ≡ false → refused f 7 ≡ answerTo f (notice k j says)
+        unfolding isKnown stateAllows
+        notice-7 e = refused-7 f (notice k j says) e₂ refl e₅ e₆ e
+
+        module _ (e₇ : (serverAt f k) .alive ≡ true) where
+          pub notice-11 : isCredible f j says ≡ false → refused f 11 ≡ answerTo f (notice k j says)
+          unfolding isKnown stateAllows ofPass ofNotice
+          notice-11 e = refused-11 f (notice k j says) e₂ refl e₅ e₆ e₇ refl refl refl e
+
+          pub notice-last : isCredible f j says ≡ true → (r : Answer) → Last f (notice k j says) r
+          unfolding isKnown stateAllows ofPass ofNotice interactionLeft
+          notice-last e r = last f (notice k j says) r (unless-full f (notice k j says) e₂ refl e₅ e₆ e₇ refl refl refl e refl)
+
+  -- pass
+  module _ (d p : ℕ) (z : ℤ) where
+    pub pass-5 : fieldsInRange (pass d p z) ≡ false → refused f 5 ≡ answerTo f (pass d p z)
+    unfolding isKnown
+    pass-5 e = refused-5 f (pass d p z) e₂ refl e
+
+    module _ (e₅ : fieldsInRange (pass d p z) ≡ true) where
+      pub pass-6 : exists f (pass d p z) ≡ false → refused f 6 ≡ answerTo f (pass d p z)
+      unfolding isKnown
+      pass-6 e = refused-6 f (pass d p z) e₂ refl e₅ e
+
+      module _ (e₆ : exists f (pass d p z) ≡ true) where
+        pub pass-8 : timeLeft f d p z ≡ false → refused f 8 ≡ answerTo f (pass d p z)
+        unfolding isKnown stateAllows ofPass
+        pass-8 e = refused-8 f (pass d p z) e₂ refl e₅ e₆ refl e
+
+        module _ (e₈ : timeLeft f d p z ≡ true) where
+          pub pass-9 : clockAllows f d p z ≡ false → refused f 9 ≡ answerTo f (pass d p z)
+          unfolding isKnown stateAllows ofPass
+          pass-9 e = refused-9 f (pass d p z) e₂ refl e₅ e₆ refl e₈ e
+
+          module _ (e₉ : clockAllows f d p z ≡ true) where
+            pub pass-10 : inTouch f d p z ≡ false → refused f 10 ≡ answerTo f (pass d p z)
+            unfolding isKnown stateAllows ofPass
+            pass-10 e = refused-10 f (pass d p z) e₂ refl e₅ e₆ refl e₈ e₉ e
+
+            pub pass-last : inTouch f d p z ≡ true → (r : Answer) → Last f (pass d p z) r
+            unfolding isKnown stateAllows ofPass ofNotice interactionLeft
+            pass-last e r = last f (pass d p z) r (unless-full f (pass d p z) e₂ refl e₅ e₆ refl e₈ e₉ e refl refl)
+
+  pub unknown-4 : refused f 4 ≡ answerTo f unknown
+  unfolding isKnown
+  unknown-4 = refused-4 f unknown e₂ refl
+
+-- what the code knows of a test by the Bool r that a call answered
+pub holds : {b r : Bool} → r ≡ b → not r ≡ false → b ≡ true
+holds e h = sym e ∙ not-false _ h
+
+pub fails : {b r : Bool} → r ≡ b → not r ≡ true → b ≡ false
+fails e h = sym e ∙ not-true _ h
+
+-- the numbers of a facade in range
+module _ (f : Facade) (t : T (inRange f)) where
+  pub sizes : Configured (f .config)
+  sizes = configured (f .config) ((ranged f t) .config)
+
+  pub time-high : f .time ≤ 1000000000
+  time-high = (ranged f t) .time
+
+  pub waiting-high : f .waiting ≤ 128
+  waiting-high = (ranged f t) .waiting
+
+  pub offset-high : (p : ℕ) → p < parties (f .config) → natAbs (offsetAt f p) ≤ 1000
+  unfolding offsetInRange
+  offset-high p h = omega (arith, sizes, leb→le (natAbs (offsetAt f p)) (f .config .skew) (and-l _ _ ((ranged f t) .offset p h)))
+
+  pub party-reading : (p : ℕ) → p < parties (f .config) → clock f p ≤ 1000001000
+  party-reading p h = omega (arith, sizes, time-high, clock-high f (ranged f t) p h)
+
+  pub reading-high : (k : ℕ) → k < f .config .servers → clock f k ≤ 1000001000
+  reading-high k h = party-reading k (omega arith)
+
+-- the fields of a notice, and the servers that it names
+pub notice-fields : (s : Step) → s .kind ≡ 4 → {r : Bool} → r ≡ fieldsInRange (action s) → r ≡ fieldsInRange (notice (s .first) (s .second) (s .third))
+notice-fields s h e = e ∙ ap fieldsInRange (action-notice s h)
+
+pub notice-names : (f : Facade) (k j says : ℕ) {x y : Bool} → y ≡ (ltb k (f .config .servers) and x) → x ≡ (ltb j (f .config .servers) and not (eqb j k)) → y ≡ exists f (notice k j says)
+unfolding exists
+notice-names f k j says e h = e ∙ ap (λ (x : Bool). ltb k (f .config .servers) and x) h
+
+pub record Named (f : Facade) (k j : ℕ) : Type 0 where
+  pub receiver : k < f .config .servers
+  pub about : j < f .config .servers
+  pub receiver-low : k < 4
+  pub about-low : j < 4
+
+pub named : (f : Facade) → T (inRange f) → (k j : ℕ) {x y : Bool} → y ≡ (ltb k (f .config .servers) and x) → x ≡ (ltb j (f .config .servers) and not (eqb j k)) → not y ≡ false → Named f k j
+named f t k j {x} {y} e h u =
+    let v : T (ltb k (f .config .servers) and x) = rw (holds e u) tt in
+    let w : T (ltb j (f .config .servers) and not (eqb j k)) = rw (← h) (and-r (ltb k (f .config .servers)) x v) in
+    let receiver = ltb→lt k (f .config .servers) (and-l _ x v) in
+    let about = ltb→lt j (f .config .servers) (and-l _ _ w) in
+    record { receiver = receiver; about = about; receiver-low = omega (arith, sizes f t); about-low = omega (arith, sizes f t) }
+
+-- the fields of a pass
+pub pass-fields : (s : Step) → s .kind ≡ 1 → {r : Bool} → r ≡ fieldsInRange (action s) → r ≡ fieldsInRange (pass (s .first) (s .second) (signed (s .third)))
+pass-fields s h e = e ∙ ap fieldsInRange (action-pass s h)
+
+pub pass-moves : (d p : ℕ) (z : ℤ) → fieldsInRange (pass d p z) ≡ true → (d ≤ 100000) × (natAbs z ≤ 2000)
+unfolding fieldsInRange
+pass-moves d p z e =
+    let t : T (fieldsInRange (pass d p z)) = rw e tt in
+    (within-high 1 100000 d (and-l _ _ t), leb→le (natAbs z) 2000 (and-r (within 1 100000 d) _ t))
+
+-- the effect of a pass, and that of a notice, by what each call answered
+module _ (f : Facade) where
+  pub pass-effect : (d p : ℕ) (z : ℤ) {g h : Facade} {y : Answer} → g ≡ moved f d p z → h ≡ lapse g → y ≡ accepted h 0 → y ≡ effect f (pass d p z)
+  unfolding effect
+  pass-effect d p z e₁ e₂ e₃ = rw (e₃, e₂, e₁)
+
+  pub notice-effect : (k j says : ℕ) {r : ℕ} {x : ServerAnswer} {y : Answer} → r ≡ clock f k → x ≡ noticed (f .config) k r (serverAt f k) j says
+      → y ≡ serverActs (withNotices f (set (f .notices) (k * 4 + j) (f .time))) k x → y ≡ effect f (notice k j says)
+  unfolding effect
+  notice-effect k j says e₁ e₂ e₃ = rw (e₃, e₂, e₁)
+
+-- a notice sends nothing
+pub notice-sends : (c : Config) (k r : ℕ) (s : Server) (j says : ℕ) (x : ServerAnswer) → x ≡ noticed c k r s j says → x .outbox .count ≤ 4
+unfolding noticed
+notice-sends c k r s j says x e = rw e (omega arith)
+
+-- client i of a facade in range: what it is asked with, and that what it sends can be sent
+module _ (f : Facade) (t : T (inRange f)) (i : ℕ) (h : i < f .config .clients) where
+  pub client-below : i < 32
+  client-below = omega (arith, (sizes f t) .clients-high)
+
+  pub client-asks : Configured (f .config) × (i < f .config .clients)
+  client-asks = (sizes f t, h)
+
+  pub client-sends : (x y : ClientAnswer) → x ≡ y → y .outbox .count ≤ 4 → (i < 32) × (f .waiting ≤ 128) × (x .outbox .count ≤ 4)
+  client-sends x y e few = (client-below, waiting-high f t, rw e few)
+
+-- the effects of a client's steps, by its answer x
+module _ (f : Facade) (i : ℕ) (x : ClientAnswer) (y : Answer) where
+  pub discover-does : x ≡ discovers (f .config) i (stateAt f i) (f .next) → y ≡ clientActs (withNext f (f .next + 1)) i x → y ≡ effect f (discover i)
+  unfolding effect
+  discover-does e q = q ∙ ap (clientActs (withNext f (f .next + 1)) i) e
+
+  module _ (w : ℕ) where
+    pub request-does : x ≡ requests (f .config) i (stateAt f i) w → y ≡ clientActs f i x → y ≡ effect f (request i w)
+    unfolding effect
+    request-does e q = q ∙ ap (clientActs f i) e
+
+    pub renew-does : x ≡ renews (f .config) i (stateAt f i) w (f .next) → y ≡ clientActs (withNext f (f .next + 1)) i x → y ≡ effect f (renew i w)
+    unfolding effect
+    renew-does e q = q ∙ ap (clientActs (withNext f (f .next + 1)) i) e
+
+-- the fields of a request and of a renewal
+module _ (s : Step) where
+  pub request-fields : s .kind ≡ 6 → {r : Bool} → r ≡ fieldsInRange (action s) → r ≡ fieldsInRange (request (s .first) (s .second))
+  request-fields h e = e ∙ ap fieldsInRange (action-request s h)
+
+  pub renew-fields : s .kind ≡ 7 → {r : Bool} → r ≡ fieldsInRange (action s) → r ≡ fieldsInRange (renew (s .first) (s .second))
+  renew-fields h e = e ∙ ap fieldsInRange (action-renew s h)

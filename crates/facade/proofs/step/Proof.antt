@@ -1,0 +1,28 @@
+use mathlib.Core.Path.{refl, sym, _∙_}
+use Rattle.rules.specs.Steps.{action}
+use Rattle.rules.proofs.Refusals.{refused-2}
+use Rattle.facade.proofs.Parts.{to-T, step-is}
+use borrow.Author.Needs.{needs}
+use Rattle.facade.proofs.step.Statement.{statement}
+use Rattle.facade.proofs.step.Tie as tie
+
+facade-in-range-requires : tie.Need-facade-in-range-requires
+facade-in-range-requires c κs = search needs
+
+by-kind-requires : tie.Need-by-kind-requires
+by-kind-requires c κs = to-T _ (sym (c .before .facade-in-range .ensures) ∙ c .if1 .taken)
+
+returns : tie.Need-returns
+returns c = search needs
+
+refused-requires : tie.Need-refused-requires
+refused-requires c κs = search needs
+
+returns-2 : tie.Need-returns-2
+returns-2 c = let a = c .before .before .before .args in
+    c .refused .ensures ∙ refused-2 (a .f) (action (a .s)) (sym (c .before .before .facade-in-range .ensures) ∙ c .before .if1 .left) ∙ step-is _ (a .s) _ refl
+
+pub step-spec : {M : Type 1} → statement M
+step-spec =
+    tie.close
+    (tie.spec facade-in-range-requires by-kind-requires returns refused-requires returns-2)

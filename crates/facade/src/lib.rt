@@ -1,0 +1,430 @@
+// The world around servers and clients: true time, clocks, notices and waiting messages, the refusals, and the ten steps.
+use arith::as_signed;
+use arith::both;
+use cable::send_all;
+use cable::take_out;
+use cable::without;
+use client::is_holding;
+use client::is_offered;
+use clocks::clock_of;
+use clocks::does_clock_allow;
+use clocks::end_holds;
+use clocks::is_credible_notice;
+use clocks::is_in_touch;
+use clocks::move_on;
+use clocks::row_now;
+use lending::closed;
+use ranges::config_in_range;
+use ranges::facade_in_range;
+use ranges::fields_in_range;
+use types::Answer;
+use types::Client;
+use types::ClientAnswer;
+use types::Config;
+use types::Facade;
+use types::Message;
+use types::Reservation;
+use types::Reserved;
+use types::Server;
+use types::ServerAnswer;
+use types::State;
+use types::Step;
+ghost use mathlib.Core.Path.{_≡_};
+ghost use mathlib.Core.Bool.{cond};
+ghost use Prim.Native.Nat.{_≤_, _<_};
+ghost use lib.Dec.{T, leb};
+ghost use Rattle.rules.specs.Clock.{signed};
+ghost use Rattle.rules.specs.Ranges.{inRange, messageInRange};
+ghost use Rattle.rules.specs.Steps.{fresh as freshFacade, start, accepted as acceptedWith, refused as refusedWith, serverActs, clientActs, handled, answerTo, step as stepOf, pass, fail, return, notice, discover, request, renew, deliver, lose, cleanup};
+
+// Before any step. All places are filled alike.
+fn fresh_facade(c: Config) -> Facade
+    ensures { λ r. ⌜ r ≡ freshFacade c ⌝ }
+{
+    let free = Reservation {
+        state: Reserved::Free,
+    };
+    let write = closed();
+    let s = Server {
+        alive: true,
+        changed: 0,
+        returned: 0,
+        believed: [true; 4],
+        leads: [false; 32],
+        reserved: [free; 32],
+        lent: [0; 32],
+        potlease: [0; 32],
+        writes: [write; 32],
+    };
+    let idle = Client { state: State::Idle };
+    let empty = outbox::empty();
+    Facade {
+        config: c,
+        time: 0,
+        next: 1,
+        offsets: [0; 36],
+        servers: [s; 4],
+        notices: [0; 16],
+        clients: [idle; 32],
+        messages: [empty; 128],
+        waiting: 0,
+    }
+}
+
+// The fresh facade of a configuration, with refusal 2 where a number of it is out of range.
+pub fn fresh(c: Config) -> Answer
+    ensures { λ r. ⌜ r ≡ start c ⌝ }
+{
+    let f = fresh_facade(c);
+    if config_in_range(c) {
+        return Answer {
+            refusal: 0,
+            outcome: 0,
+            facade: f,
+        };
+    }
+    Answer {
+        refusal: 2,
+        outcome: 0,
+        facade: f,
+    }
+}
+
+// A refused step returns the facade it was given.
+fn refused(f: Facade, n: u32) -> Answer
+    ensures { λ r. ⌜ r ≡ refusedWith f n ⌝ }
+{
+    Answer {
+        refusal: n,
+        outcome: 0,
+        facade: f,
+    }
+}
+
+fn accepted(f: Facade, n: u32) -> Answer
+    ensures { λ r. ⌜ r ≡ acceptedWith f n ⌝ }
+{
+    Answer {
+        refusal: 0,
+        outcome: n,
+        facade: f,
+    }
+}
+
+// Refusal 13, the last: the answer x, unless more than 128 messages would wait.
+fn unless_full(f: Facade, x: Answer) -> Answer
+    ensures { λ r. ⌜ r ≡ cond (leb (x .facade .waiting) 128) x (refusedWith f 13) ⌝ }
+{
+    if x.facade.waiting <= 128 {
+        return x;
+    }
+    refused(f, 13)
+}
+
+// Server k is as it answered, and what it sends waits.
+fn server_acts(f: Facade, k: u32, x: ServerAnswer) -> Answer
+    requires { ⌜ (k < 4) × (f .waiting ≤ 128) × (x .outbox .count ≤ 4) ⌝ }
+    ensures { λ r. ⌜ r ≡ serverActs f k x ⌝ }
+{
+    let at = k as usize;
+    let s = x.server;
+    let mut g = f;
+    g.servers[at] = s;
+    let sent = x.outbox;
+    let h = send_all(g, sent);
+    accepted(h, x.outcome)
+}
+
+// The same of client i.
+fn client_acts(f: Facade, i: u32, x: ClientAnswer) -> Answer
+    requires { ⌜ (i < 32) × (f .waiting ≤ 128) × (x .outbox .count ≤ 4) ⌝ }
+    ensures { λ r. ⌜ r ≡ clientActs f i x ⌝ }
+{
+    let at = i as usize;
+    let y = x.client;
+    let mut g = f;
+    g.clients[at] = y;
+    let sent = x.outbox;
+    let h = send_all(g, sent);
+    accepted(h, x.outcome)
+}
+
+// Step 1: pass.
+
+fn pass_step(f: Facade, s: Step) -> Answer
+    requires { ⌜ T (inRange f) × (s .kind ≡ 1) ⌝ }
+    ensures { λ r. ⌜ r ≡ answerTo f (pass (s .first) (s .second) (signed (s .third))) ⌝ }
+{
+    let d = s.first;
+    let p = s.second;
+    let e = as_signed(s.third);
+    if !fields_in_range(s) {
+        return refused(f, 5);
+    }
+    if f.config.servers + f.config.clients <= p {
+        return refused(f, 6);
+    }
+    if 1000000000 < f.time + d {
+        return refused(f, 8);
+    }
+    if !does_clock_allow(f, d, p, e) {
+        return refused(f, 9);
+    }
+    if !is_in_touch(f, d) {
+        return refused(f, 10);
+    }
+    let g = move_on(f, d, p, e);
+    unless_full(f, accepted(end_holds(g), 0))
+}
+
+// Step 2: fail.
+fn fail_step(f: Facade, k: u32) -> Answer
+    requires { ⌜ T (inRange f) ⌝ }
+    ensures { λ r. ⌜ r ≡ answerTo f (fail k) ⌝ }
+{
+    if f.config.servers <= k {
+        return refused(f, 6);
+    }
+    let at = k as usize;
+    let mut s = f.servers[at];
+    if !s.alive {
+        return refused(f, 7);
+    }
+    s.alive = false;
+    s.changed = f.time;
+    let mut g = f;
+    g.servers[at] = s;
+    unless_full(f, accepted(g, 0))
+}
+
+// Step 3: return.
+
+fn return_step(f: Facade, k: u32) -> Answer
+    requires { ⌜ T (inRange f) ⌝ }
+    ensures { λ r. ⌜ r ≡ answerTo f (return k) ⌝ }
+{
+    if f.config.servers <= k {
+        return refused(f, 6);
+    }
+    let at = k as usize;
+    let s = f.servers[at];
+    if s.alive {
+        return refused(f, 7);
+    }
+    let x = server::come_back(clock_of(f, k), s);
+    let mut t = x.server;
+    t.alive = true;
+    t.changed = f.time;
+    let ts = f.notices;
+    let row = row_now(ts, k, f.time);
+    let mut g = f;
+    g.servers[at] = t;
+    g.notices = row;
+    unless_full(f, accepted(g, 0))
+}
+
+// Step 4: notice.
+
+fn notice_step(f: Facade, s: Step) -> Answer
+    requires { ⌜ T (inRange f) × (s .kind ≡ 4) ⌝ }
+    ensures { λ r. ⌜ r ≡ answerTo f (notice (s .first) (s .second) (s .third)) ⌝ }
+{
+    let c = f.config;
+    let k = s.first;
+    let j = s.second;
+    if !fields_in_range(s) {
+        return refused(f, 5);
+    }
+    if !both(k < c.servers, both(j < c.servers, !(j == k))) {
+        return refused(f, 6);
+    }
+    let at = k as usize;
+    let own = f.servers[at];
+    if !own.alive {
+        return refused(f, 7);
+    }
+    if !is_credible_notice(f, j, s.third) {
+        return refused(f, 11);
+    }
+    let mut g = f;
+    let about = (k * 4 + j) as usize;
+    g.notices[about] = f.time;
+    let x = server::notice(c, k, clock_of(f, k), own, j, s.third);
+    unless_full(f, server_acts(g, k, x))
+}
+
+// Step 5: discover.
+fn discover_step(f: Facade, i: u32) -> Answer
+    requires { ⌜ T (inRange f) ⌝ }
+    ensures { λ r. ⌜ r ≡ answerTo f (discover i) ⌝ }
+{
+    let c = f.config;
+    if c.clients <= i {
+        return refused(f, 6);
+    }
+    let at = i as usize;
+    let y = f.clients[at];
+    let state = y.state;
+    if is_holding(state) {
+        return refused(f, 7);
+    }
+    if 1000000 < f.next {
+        return refused(f, 12);
+    }
+    let x = client::discover(c, i, state, f.next);
+    let mut g = f;
+    g.next = f.next + 1;
+    unless_full(f, client_acts(g, i, x))
+}
+
+// Step 6: request.
+fn request_step(f: Facade, s: Step) -> Answer
+    requires { ⌜ T (inRange f) × (s .kind ≡ 6) ⌝ }
+    ensures { λ r. ⌜ r ≡ answerTo f (request (s .first) (s .second)) ⌝ }
+{
+    let c = f.config;
+    let i = s.first;
+    if !fields_in_range(s) {
+        return refused(f, 5);
+    }
+    if c.clients <= i {
+        return refused(f, 6);
+    }
+    let at = i as usize;
+    let y = f.clients[at];
+    let state = y.state;
+    if !is_offered(state) {
+        return refused(f, 7);
+    }
+    let x = client::request(c, i, state, s.second);
+    unless_full(f, client_acts(f, i, x))
+}
+
+// Step 7: renew.
+fn renew_step(f: Facade, s: Step) -> Answer
+    requires { ⌜ T (inRange f) × (s .kind ≡ 7) ⌝ }
+    ensures { λ r. ⌜ r ≡ answerTo f (renew (s .first) (s .second)) ⌝ }
+{
+    let c = f.config;
+    let i = s.first;
+    if !fields_in_range(s) {
+        return refused(f, 5);
+    }
+    if c.clients <= i {
+        return refused(f, 6);
+    }
+    let at = i as usize;
+    let y = f.clients[at];
+    let state = y.state;
+    if !is_holding(state) {
+        return refused(f, 7);
+    }
+    if 1000000 < f.next {
+        return refused(f, 12);
+    }
+    let x = client::renew(c, i, state, s.second, f.next);
+    let mut g = f;
+    g.next = f.next + 1;
+    unless_full(f, client_acts(g, i, x))
+}
+
+// Step 8: deliver.
+
+// Message m is handled by the party that it is for.
+fn handle(f: Facade, m: Message) -> Answer
+    requires { ⌜ T (inRange f) × T (messageInRange (f .config) (f .next) m) ⌝ }
+    ensures { λ r. ⌜ r ≡ handled f m ⌝ }
+{
+    let c = f.config;
+    let to = m.receiver;
+    let r = clock_of(f, to);
+    if to < c.servers {
+        let at = to as usize;
+        let s = f.servers[at];
+        let x = server::receive(c, to, r, s, m);
+        return server_acts(f, to, x);
+    }
+    let i = to - c.servers;
+    let at = i as usize;
+    let y = f.clients[at];
+    let state = y.state;
+    let x = client::receive(r, state, m);
+    client_acts(f, i, x)
+}
+
+fn deliver_step(f: Facade, s: Step) -> Answer
+    requires { ⌜ T (inRange f) × (s .kind ≡ 8) ⌝ }
+    ensures { λ r. ⌜ r ≡ answerTo f (deliver (s .first) (s .second)) ⌝ }
+{
+    let p = s.first;
+    if !fields_in_range(s) {
+        return refused(f, 5);
+    }
+    if f.waiting <= p {
+        return refused(f, 6);
+    }
+    let at = p as usize;
+    let m = f.messages[at];
+    let g = take_out(f, p, s.second);
+    unless_full(f, handle(g, m))
+}
+
+// Step 9: lose.
+fn lose_step(f: Facade, p: u32) -> Answer
+    requires { ⌜ T (inRange f) ⌝ }
+    ensures { λ r. ⌜ r ≡ answerTo f (lose p) ⌝ }
+{
+    if f.waiting <= p {
+        return refused(f, 6);
+    }
+    unless_full(f, accepted(without(f, p), 0))
+}
+
+// Step 10: cleanup.
+fn cleanup_step(f: Facade, k: u32) -> Answer
+    requires { ⌜ T (inRange f) ⌝ }
+    ensures { λ r. ⌜ r ≡ answerTo f (cleanup k) ⌝ }
+{
+    let c = f.config;
+    if c.servers <= k {
+        return refused(f, 6);
+    }
+    let at = k as usize;
+    let s = f.servers[at];
+    if !s.alive {
+        return refused(f, 7);
+    }
+    let x = server::clean_up(c, clock_of(f, k), s);
+    unless_full(f, server_acts(f, k, x))
+}
+
+// The kind number decides the step.
+fn by_kind(f: Facade, s: Step) -> Answer
+    requires { ⌜ T (inRange f) ⌝ }
+    ensures { λ r. ⌜ r ≡ stepOf f s ⌝ }
+{
+    let kind = s.kind;
+    match kind {
+        1 => pass_step(f, s),
+        2 => fail_step(f, s.first),
+        3 => return_step(f, s.first),
+        4 => notice_step(f, s),
+        5 => discover_step(f, s.first),
+        6 => request_step(f, s),
+        7 => renew_step(f, s),
+        8 => deliver_step(f, s),
+        9 => lose_step(f, s.first),
+        10 => cleanup_step(f, s.first),
+        _ => refused(f, 4),
+    }
+}
+
+// A step of the whole facade: the first rule broken, or the next facade and the outcome.
+pub fn step(f: Facade, s: Step) -> Answer
+    ensures { λ r. ⌜ r ≡ stepOf f s ⌝ }
+{
+    if facade_in_range(f) {
+        return by_kind(f, s);
+    }
+    refused(f, 2)
+}
