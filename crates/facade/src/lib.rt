@@ -31,11 +31,14 @@ use types::State;
 use types::Step;
 ghost use mathlib.Core.Path.{_≡_};
 ghost use mathlib.Core.Bool.{cond};
-ghost use Prim.Native.Nat.{_≤_, _<_};
-ghost use lib.Dec.{T, leb};
+ghost use Prim.Native.Nat.{_+_, _≤_, _<_};
+ghost use lib.Dec.{T, leb, ltb};
+ghost use Rattle.rules.specs.Conditions.{_and_};
+ghost use Rattle.rules.specs.Parts.{stateAt};
+ghost use Rattle.rules.specs.Client.{isHolding};
 ghost use Rattle.rules.specs.Clock.{signed};
 ghost use Rattle.rules.specs.Ranges.{inRange, messageInRange};
-ghost use Rattle.rules.specs.Steps.{fresh as freshFacade, start, accepted as acceptedWith, refused as refusedWith, serverActs, clientActs, handled, answerTo, step as stepOf, pass, fail, return, notice, discover, request, renew, deliver, lose, cleanup};
+ghost use Rattle.rules.specs.Steps.{fresh as freshFacade, start, accepted as acceptedWith, refused as refusedWith, serverActs, clientActs, handled, answerTo, step as stepOf, heldClients, pass, fail, return, notice, discover, request, renew, deliver, lose, cleanup};
 
 // Before any step. All places are filled alike.
 fn fresh_facade(c: Config) -> Facade
@@ -427,4 +430,36 @@ pub fn step(f: Facade, s: Step) -> Answer
         return by_kind(f, s);
     }
     refused(f, 2)
+}
+
+// Whether i is a client of the facade and holds.
+fn does_hold(f: Facade, i: u32) -> bool
+    requires { ⌜ i < 32 ⌝ }
+    ensures { λ r. ⌜ r ≡ (ltb i (f .config .clients) and isHolding (stateAt f i)) ⌝ }
+{
+    let at = i as usize;
+    let y = f.clients[at];
+    let state = y.state;
+    both(i < f.config.clients, is_holding(state))
+}
+
+// One more if b is true.
+fn one_more_if(b: bool, n: u32) -> u32
+    requires { ⌜ n ≤ 32 ⌝ }
+    ensures { λ r. ⌜ r ≡ cond b (n + 1) n ⌝ }
+{
+    if b { n + 1 } else { n }
+}
+
+// How many clients hold.
+pub fn held(f: Facade) -> u32
+    ensures { λ r. ⌜ r ≡ heldClients f ⌝ }
+{
+    let mut n = 0;
+    let mut i = 0;
+    while i < 32 {
+        n = one_more_if(does_hold(f, i), n);
+        i += 1;
+    }
+    n
 }

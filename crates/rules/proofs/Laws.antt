@@ -11,7 +11,7 @@ use native.Mathlib.Decide.{ℕ-discrete, decLt}
 use lib.Dec.{T, leb, eqb, leb→le, eqb-refl}
 use lib.ListN.{length, getD, set, replicate, length-set}
 use lib.Seq.{getD-set-same, getD-set-other, set-out}
-use Rattle.rules.specs.Conditions.{_and_, _or_, within, unless, all, lowest, filled}
+use Rattle.rules.specs.Conditions.{_and_, _or_, within, unless, all, counted, lowest, filled}
 
 pub data Or (A B : Type 0) : Type 0 where
   inl : A → Or A B
@@ -97,6 +97,19 @@ all-more p n x y z e h q = rw add-one (rw (← e, ← h) q)
 
 pub all-done : (p : ℕ → Bool) (i n : ℕ) (ok : Bool) → i ≡ n → ok ≡ all p i → ok ≡ all p n
 all-done p i n ok h e = e ∙ ap (all p) h
+
+pub counted-more : (p : ℕ → Bool) (n x y : ℕ) (b : Bool) → b ≡ p n → x ≡ counted p n → y ≡ cond b (x + 1) x → y ≡ counted p (n + 1)
+unfolding counted
+counted-more p n x y b e h q = rw add-one (rw (← e, ← h) q)
+
+counted-go : (b : Bool) (x n : ℕ) → x ≤ n → cond b (x + 1) x ≤ suc n
+counted-go true x n h = omega arith
+counted-go false x n h = omega arith
+
+pub counted-high : (p : ℕ → Bool) (n : ℕ) → counted p n ≤ n
+unfolding counted
+counted-high p zero = omega arith
+counted-high p (suc n) = counted-go (p n) (counted p n) n (counted-high p n)
 
 -- the search for the lowest number, at i of n
 module _ (p : ℕ → Bool) (i n : ℕ) where

@@ -1,7 +1,7 @@
 -- Conditions and repetitions that the rules are written with.
 use mathlib.Core.Bool.{Bool, true, false, cond}
 use mathlib.Core.List.{List}
-use Prim.Native.Nat.{ℕ, zero, suc}
+use Prim.Native.Nat.{ℕ, zero, suc, _+_}
 use lib.Dec.{leb}
 use lib.ListN.{set}
 
@@ -27,6 +27,11 @@ unless false n below = n
 unfoldable pub all : (ℕ → Bool) → ℕ → Bool
 all p zero = true
 all p (suc n) = p n and all p n
+
+-- at how many numbers below n p holds
+unfoldable pub counted : (ℕ → Bool) → ℕ → ℕ
+counted p zero = 0
+counted p (suc n) = cond (p n) (counted p n + 1) (counted p n)
 
 -- the lowest of the n numbers from k on at which p holds; k + n where there is none
 unfoldable pub lowest : (ℕ → Bool) → ℕ → ℕ → ℕ

@@ -16,7 +16,7 @@ use Rattle.types.specs.declared.Step.{Step}
 use Rattle.types.specs.declared.Answer.{Answer}
 use Rattle.types.specs.declared.ServerAnswer.{ServerAnswer}
 use Rattle.types.specs.declared.ClientAnswer.{ClientAnswer}
-use Rattle.rules.specs.Conditions.{_and_, _or_, within, unless, all, filled}
+use Rattle.rules.specs.Conditions.{_and_, _or_, within, unless, all, counted, filled}
 use Rattle.rules.specs.Clock.{plus, notNegative, signed}
 use Rattle.rules.specs.Parts.{serverAt, stateAt, messageAt, offsetAt, noticeAt, clock, clientParty, parties, inState, noReservation, noClient, noMessage, withLife, withServer, withNotices, withClient, withClients, withTime, withNext}
 use Rattle.rules.specs.Ranges.{configInRange, inRange, endInRange, isServer, lastTime, lastInteraction, mostWaiting}
@@ -296,3 +296,7 @@ run f (s ∷ ss) = run ((step f s) .facade) ss
 -- the answer to a configuration alone: the fresh facade, and refusal 2 where a number is outside its range
 unfoldable pub start : Config → Answer
 start c = record { refusal = unless (configInRange c) 2 0; outcome = 0; facade = fresh c }
+
+-- "how many clients hold"
+unfoldable pub heldClients : Facade → ℕ
+heldClients f = counted (λ i. ltb i (f .config .clients) and isHolding (stateAt f i)) 32

@@ -1,0 +1,23 @@
+use Rattle.rules.specs.Conditions.{_and_}
+use borrow.Author.Needs.{needs}
+use Rattle.facade.proofs.does_hold.Statement.{statement}
+use Rattle.facade.proofs.does_hold.Tie as tie
+
+mul-y : tie.Need-mul-y
+mul-y c = search needs
+
+element-copy-out-y : tie.Need-element-copy-out-y
+element-copy-out-y c = search needs
+
+is-holding-requires : tie.Need-is-holding-requires
+is-holding-requires c κs = search needs
+
+both-requires : tie.Need-both-requires
+both-requires c κs = search needs
+
+returns : tie.Need-returns
+returns c = rw (← c .before .is-holding .ensures) (c .both .ensures)
+
+pub does-hold-spec : {M : Type 1} → statement M
+does-hold-spec =
+    tie.close (tie.spec mul-y element-copy-out-y is-holding-requires both-requires returns)
