@@ -266,7 +266,7 @@ const FAILOVER: [u32; 188] = [
 
 // The numbers of a line, separated by spaces.
 fn print_line(number: u64, refusal: u32, outcome: u32, time: u32, waiting: u32) {
-    io::number::print_decimal(STDOUT_FILENO, number);
+    io::print_decimal(STDOUT_FILENO, number);
     print_field(refusal);
     print_field(outcome);
     print_field(time);
@@ -276,7 +276,7 @@ fn print_line(number: u64, refusal: u32, outcome: u32, time: u32, waiting: u32) 
 
 fn print_field(n: u32) {
     io::write_all(STDOUT_FILENO, b" ");
-    io::number::print_decimal(STDOUT_FILENO, n as u64);
+    io::print_decimal(STDOUT_FILENO, n as u64);
 }
 
 // Takes a step, prints its line and gives the facade that it returns.
