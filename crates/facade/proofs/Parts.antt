@@ -1,12 +1,12 @@
 -- Laws of single parts of a step: what a facade in range tells, and what the code puts together.
 use mathlib.Core.Path.{_≡_, refl, sym, ap, _∙_}
-use mathlib.Core.Bool.{Bool, true, false, not, cond}
+use mathlib.Core.Bool.{Bool, true}
 use mathlib.Core.List.{List}
-use Prim.Native.Nat.{ℕ, _+_, _-_, _≤_, _<_}
+use Prim.Native.Nat.{ℕ, _-_, _≤_, _<_}
 use native.Mathlib.Omega.{arith}
 use native.Mathlib.Decide.{decLt}
 use borrow.Author.Tests.{lt-ltb, le-ltb, le-leb}
-use lib.Dec.{T, leb, ltb, eqb, not-T, ltb→lt}
+use lib.Dec.{T, eqb, not-T, ltb→lt}
 use lib.ListN.{length}
 use Rattle.types.specs.declared.Config.{Config}
 use Rattle.types.specs.declared.Server.{Server}

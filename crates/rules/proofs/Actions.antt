@@ -6,7 +6,7 @@ use borrow.Author.Tests.{ne-eqb, le-leb, lt-leb}
 use Rattle.types.specs.declared.Step.{Step}
 use Rattle.rules.specs.Conditions.{_and_, within}
 use Rattle.rules.specs.Clock.{signed}
-use Rattle.rules.specs.Steps.{Action, pass, fail, return, notice, discover, request, renew, deliver, lose, cleanup, unknown, action, isKnown}
+use Rattle.rules.specs.Steps.{pass, fail, return, notice, discover, request, renew, deliver, lose, cleanup, unknown, action, isKnown}
 
 pub action-pass : (s : Step) → s .kind ≡ 1 → action s ≡ pass (s .first) (s .second) (signed (s .third))
 unfolding action

@@ -1,19 +1,19 @@
 -- Laws of the waiting messages: which messages wait after a sending or a removal, and which an outbox holds.
 use mathlib.Core.Path.{_≡_, refl, sym, ap, _∙_}
 use mathlib.Core.Logic.{_≢_}
-use mathlib.Core.Bool.{Bool, true, false, not, cond}
-use mathlib.Core.List.{List, [], _∷_, _++_}
+use mathlib.Core.Bool.{Bool, true, false, not}
+use mathlib.Core.List.{List, _∷_, _++_}
 use Prim.Native.Nat.{ℕ, zero, suc, _+_, _-_, _≤_, _<_}
 use native.Mathlib.Nat.{not-suc-le-zero}
 use native.Mathlib.Omega.{arith}
 use native.Mathlib.Decide.{ℕ-discrete, decLt}
-use lib.Dec.{T, eqb, eqb→eq, eqb-refl}
+use lib.Dec.{T, eqb}
 use lib.ListN.{length, getD, set, take, drop, length-set, length-append, length-take, length-drop, List·getD-append}
 use lib.Seq.{getD-set-same, getD-set-other, getD-take, getD-drop, getD-append-add, length-take-le}
 use Rattle.types.specs.declared.Message.{Message}
 use Rattle.types.specs.declared.Outbox.{Outbox}
 use Rattle.types.specs.declared.Facade.{Facade}
-use Rattle.rules.specs.Parts.{noMessage, messageAt}
+use Rattle.rules.specs.Parts.{noMessage}
 use Rattle.rules.specs.Messages.{nothing, post, postUnless, toServers, toEach, toOthers, sentBehind, sendAll, removed, without}
 use Rattle.rules.proofs.Laws.{Or, inl, inr, not-eqb}
 

@@ -1,7 +1,7 @@
 -- Laws of clocks, over ℕ: what the theorems need of a signed amount.
-use mathlib.Core.Path.{_≡_, refl}
+use mathlib.Core.Path.{_≡_}
 use mathlib.Core.Bool.{Bool, true, false, not, cond}
-use Prim.Native.Nat.{ℕ, zero, suc, _+_, _-_, _≤_, _<_}
+use Prim.Native.Nat.{ℕ, suc, _+_, _-_, _≤_, _<_}
 use native.Mathlib.Omega.{arith}
 use lib.Dec.{T, ltb, ltb→lt, lt→ltb, nltb→le}
 use lib.IntN.{ℤ, pos, negsuc, natAbs, subℕ, _+ℤ_}

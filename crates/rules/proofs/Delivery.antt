@@ -1,11 +1,11 @@
 -- Each step that is not refused keeps every promise covered.
-use mathlib.Core.Path.{_≡_, refl, sym, _∙_}
-use mathlib.Core.Bool.{Bool, true, false, not, cond}
+use mathlib.Core.Path.{_≡_, refl, _∙_}
+use mathlib.Core.Bool.{not}
 use mathlib.Core.List.{List}
 use Prim.Native.Nat.{ℕ, _+_, _-_, _≤_, _<_}
 use native.Mathlib.Nat.{le-refl}
 use native.Mathlib.Omega.{arith}
-use lib.Dec.{T, ltb, eqb, leb→le, ltb→lt, nltb→le}
+use lib.Dec.{T, eqb, ltb→lt, nltb→le}
 use lib.ListN.{length}
 use Rattle.types.specs.declared.Config.{Config}
 use Rattle.types.specs.declared.Body.{Body}
@@ -14,8 +14,7 @@ use Rattle.types.specs.declared.Message.{Message}
 use Rattle.types.specs.declared.Outbox.{Outbox}
 use Rattle.types.specs.declared.Facade.{Facade}
 use Rattle.types.specs.declared.Answer.{Answer}
-use Rattle.rules.specs.Conditions.{_and_}
-use Rattle.rules.specs.Parts.{serverAt, stateAt, messageAt, clock, clientParty, parties, withMessages}
+use Rattle.rules.specs.Parts.{serverAt, messageAt, clientParty, parties, withMessages}
 use Rattle.rules.specs.Ranges.{isServer, isClient, bodyInRange, messageInRange}
 use Rattle.rules.specs.Messages.{sendAll, without}
 use Rattle.rules.specs.Steps.{Action, pass, fail, return, notice, discover, request, renew, deliver, lose, cleanup, unknown, exists, takenOut, handled, effect}
@@ -23,11 +22,11 @@ use Rattle.rules.proofs.Laws.{Or, inl, inr, and-l, and-r, clash, cond-c
 use Rattle.rules.proofs.Cable.{Among, Waits, Posted, waits-sent, length-removed, waits-removed}
 use Rattle.rules.proofs.Kept.{Ranged, Kept}
 use Rattle.rules.proofs.Leadership.{OneLeader}
-use Rattle.rules.proofs.Leases.{world, holds, sent, Claim, Leased, passedBy, plain}
+use Rattle.rules.proofs.Leases.{world, holds, sent, Claim, Leased, plain}
 use Rattle.rules.proofs.Serving.{leased-fail, leased-return, leased-notice, leased-cleanup}
-use Rattle.rules.proofs.Holding.{leased-discover, leased-request, leased-renew, leased-pass}
+use Rattle.rules.proofs.Clients.{leased-discover, leased-request, leased-renew, leased-pass}
 use Rattle.rules.proofs.Granting as Granting
-use Rattle.rules.proofs.Holding as Holding
+use Rattle.rules.proofs.Clients as Clients
 
 -- a message that is not for a server is for a client
 pub for-client : (c : Config) (from to : ℕ) (b : Body) → T (bodyInRange c from to b) → T (not (isServer c to)) → to < parties c
@@ -58,7 +57,7 @@ module _ (f : Facade) (g : Ranged f) (four : length (f .servers) ≡ 4) (len : l
         (λ t room.
         let is : m .receiver ≡ clientParty (f .config) (m .receiver - f .config .servers) = omega (arith, nltb→le (m .receiver) (f .config .servers) t) in
         let in-range : m .receiver < parties (f .config) = for-client (f .config) (m .sender) (m .receiver) (m .body) (and-r _ _ (g .message m waits)) t in
-        Holding.keeps-receive f g v (m .receiver - f .config .servers) (omega arith) _ m waits is (was _ room))
+        Clients.keeps-receive f g v (m .receiver - f .config .servers) (omega arith) _ m waits is (was _ room))
 
   -- a message lost
   fewer : (p : ℕ) → p < f .waiting → (m : Message) → Waits (without f p) m → Waits f m

@@ -1,15 +1,14 @@
 -- What a server does with a message keeps every promise covered.
-use mathlib.Core.Path.{_≡_, refl, sym, ap, _∙_}
+use mathlib.Core.Path.{_≡_, refl, ap, _∙_}
 use mathlib.Core.Logic.{_≢_}
-use mathlib.Core.Bool.{Bool, true, false, not, cond}
+use mathlib.Core.Bool.{Bool, true, false}
 use mathlib.Core.List.{List}
-use Prim.Native.Nat.{ℕ, _+_, _-_, _*_, _≤_, _<_, max, min}
+use Prim.Native.Nat.{ℕ, _+_, _-_, _≤_, _<_, max, min}
 use native.Mathlib.Nat.{le-refl}
 use native.Mathlib.Omega.{arith}
-use lib.Dec.{T, leb, ltb, eqb, leb→le, ltb→lt, eqb→eq}
+use lib.Dec.{T, leb, ltb, leb→le, ltb→lt, eqb→eq}
 use lib.ListN.{length, getD, set, replicate, length-set}
 use lib.Seq.{getD-set-same}
-use Rattle.types.specs.declared.Config.{Config}
 use Rattle.types.specs.declared.Reservation.{Reservation}
 use Rattle.types.specs.declared.Pending.{Pending}
 use Rattle.types.specs.declared.Pending.the-variants.{Closed, Open}
@@ -25,7 +24,7 @@ use Rattle.rules.specs.Conditions.{_and_, all}
 use Rattle.rules.specs.Parts.{noServer, noWrite, serverAt, clock, clientParty, message, leadsAt, lentAt, recordAt, writeAt, withReserved, withLease, withRecord, withWrite}
 use Rattle.rules.specs.Ranges.{isClient, bodyInRange, messageInRange}
 use Rattle.rules.specs.Messages.{nothing, post}
-use Rattle.rules.specs.Server.{answer, closed, opened, expirySlack, expired, offerable, offers, onDiscover, writtenEnd, ackEnd, granted, dropped, grantable, grants, onRequest, onRenew, onWrite, matchesWrite, acknowledged, onWriteAck, serverHandles, serverReceives}
+use Rattle.rules.specs.Server.{answer, closed, opened, expirySlack, expired, offers, onDiscover, writtenEnd, ackEnd, granted, dropped, grantable, grants, onRequest, onRenew, onWrite, matchesWrite, acknowledged, onWriteAck, serverHandles, serverReceives}
 use Rattle.rules.proofs.Laws.{Or, inl, inr, and-l, and-r, cond-case, all-at, set-case, set-any, rep-ind}
 use Rattle.rules.proofs.Cable.{Waits, Posted, ToServer, posted-nothing, posted-one, posted-others}
 use Rattle.rules.proofs.Kept.{Configured, configured, Ranged}

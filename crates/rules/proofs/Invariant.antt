@@ -1,34 +1,28 @@
 -- What holds after any list of steps from a fresh facade, and what it says of holders, leaders and records.
 use mathlib.Core.Path.{_≡_, refl, sym, _∙_, subst}
-use mathlib.Core.Logic.{_≢_}
-use mathlib.Core.Bool.{Bool, true, false, not, cond}
 use mathlib.Core.List.{List, [], _∷_}
-use Prim.Native.Nat.{ℕ, _+_, _≤_, _<_}
+use Prim.Native.Nat.{ℕ, _≤_, _<_}
 use native.Mathlib.Omega.{arith}
 use native.Mathlib.Decide.{ℕ-discrete}
 use lib.Dec.{T, eqb, ltb→lt, eqb→eq}
-use lib.ListN.{length, getD, replicate, length-replicate, getD-replicate}
+use lib.ListN.{length, getD, replicate}
 use Rattle.types.specs.declared.Config.{Config}
-use Rattle.types.specs.declared.Server.{Server}
-use Rattle.types.specs.declared.State.{State}
 use Rattle.types.specs.declared.State.the-variants.{Idle, Holding}
 use Rattle.types.specs.declared.Message.{Message}
 use Rattle.types.specs.declared.Facade.{Facade}
 use Rattle.types.specs.declared.Step.{Step}
 use Rattle.types.specs.declared.Answer.{Answer}
-use Rattle.rules.specs.Conditions.{_and_}
-use Rattle.rules.specs.Parts.{noServer, noWrite, noClient, serverAt, stateAt, messageAt, clientParty, leadsAt, lentAt, recordAt, writeAt}
+use Rattle.rules.specs.Parts.{noWrite, noClient, serverAt, stateAt, messageAt, clientParty, leadsAt, lentAt, recordAt, writeAt}
 use Rattle.rules.specs.Ranges.{configInRange, stateInRange, inRange, isServer}
 use Rattle.rules.specs.Order.{rank}
 use Rattle.rules.specs.Messages.{without}
 use Rattle.rules.specs.Server.{closed}
-use Rattle.rules.specs.Steps.{Action, pass, fail, return, notice, discover, request, renew, deliver, lose, cleanup, unknown, freshServer, fresh, action, lapse, takenOut, handled, effect, refused, refusal, answerTo, step, run}
-use Rattle.rules.proofs.Laws.{and-l, and-r, cond-case, rep-ind}
-use Rattle.rules.proofs.Cable.{Waits}
-use Rattle.rules.proofs.Kept.{Configured, configured, Ranged, ranged, Kept, kept}
+use Rattle.rules.specs.Steps.{Action, pass, fail, return, notice, discover, request, renew, deliver, lose, cleanup, unknown, fresh, action, lapse, takenOut, handled, effect, refusal, answerTo, step, run}
+use Rattle.rules.proofs.Laws.{and-l, cond-case, rep-ind}
+use Rattle.rules.proofs.Kept.{of-fresh, Configured, configured, Ranged, ranged, Kept, kept}
 use Rattle.rules.proofs.Ranges.{in-range-kept, messages-kept, fresh-in-range}
 use Rattle.rules.proofs.Leadership.{round, Led, one-leader, clock-low, led-kept, led-fresh}
-use Rattle.rules.proofs.Leases.{world, srv, Cov, Claim, holds, sent, OpenOk, Leased}
+use Rattle.rules.proofs.Leases.{world, Cov, Claim, holds, sent, OpenOk, Leased}
 use Rattle.rules.proofs.Serving.{cov-zero}
 use Rattle.rules.proofs.Delivery.{leased-kept}
 
@@ -146,17 +140,14 @@ no-claim c i a e (sent m p s) = absurd (omega (arith, p .below))
 leased-fresh : (c : Config) → Configured c → Leased (world (fresh c))
 unfolding fresh
 leased-fresh c ok = record {
-  rows = λ k h. of-fresh (λ s. length (s .potlease) ≡ 32) k h refl;
+  rows = λ k h. of-fresh c ok (λ s. length (s .potlease) ≡ 32) k h refl;
   claims = λ i a e ha x. no-claim c i a e x;
-  lents = λ k a h ha. of-fresh (λ s. Cov (world (fresh c)) a (lentAt s a)) k h (rep-ind (λ x. Cov (world (fresh c)) a x) 32 0 0 a (cov-zero _ a) (cov-zero _ a));
-  opens = λ k a h ha. of-fresh (λ s. OpenOk (world (fresh c)) a (writeAt s a)) k h (rep-ind (λ x. OpenOk (world (fresh c)) a x) 32 closed noWrite a tt tt);
+  lents = λ k a h ha. of-fresh c ok (λ s. Cov (world (fresh c)) a (lentAt s a)) k h (rep-ind (λ x. Cov (world (fresh c)) a x) 32 0 0 a (cov-zero _ a) (cov-zero _ a));
+  opens = λ k a h ha. of-fresh c ok (λ s. OpenOk (world (fresh c)) a (writeAt s a)) k h (rep-ind (λ x. OpenOk (world (fresh c)) a x) 32 closed noWrite a tt tt);
   acks = λ m p. absurd (omega (arith, p .below));
   pair = λ i a e i′ e′ ha x y ne. no-claim c i a e x;
   above = λ i a e q h p. none-held i a e q p;
 }
-  where
-    of-fresh : (P : Server → Type 0) (k : ℕ) → k < c .servers → P freshServer → P (getD (replicate 4 freshServer) k noServer)
-    of-fresh P k h p = rw (getD-replicate 4 k freshServer noServer (omega (arith, ok .servers-high))) p
 
 invariant-fresh : (c : Config) → T (configInRange c) → Invariant (fresh c)
 unfolding fresh

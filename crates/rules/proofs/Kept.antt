@@ -1,18 +1,19 @@
 -- What a test that passed says: the ranges of a facade, and the rules that a step has kept.
-use mathlib.Core.Path.{_≡_, refl, sym, ap, _∙_}
+use mathlib.Core.Path.{_≡_, refl}
 use mathlib.Core.Logic.{_≢_}
-use mathlib.Core.Bool.{Bool, true, false, not, cond}
-use Prim.Native.Nat.{ℕ, zero, suc, _+_, _≤_, _<_}
+use Prim.Native.Nat.{ℕ, _+_, _≤_, _<_}
 use native.Mathlib.Omega.{arith}
 use native.Mathlib.Decide.{ℕ-discrete}
-use lib.Dec.{T, leb, ltb, eqb, leb→le, le→leb, ltb→lt, eqb→eq, eqb-refl}
+use lib.ListN.{getD, replicate, getD-replicate}
+use lib.Dec.{T, leb, eqb, leb→le, le→leb, eqb→eq, eqb-refl}
 use Rattle.types.specs.declared.Config.{Config}
+use Rattle.types.specs.declared.Server.{Server}
 use Rattle.types.specs.declared.Message.{Message}
 use Rattle.types.specs.declared.Facade.{Facade}
-use Rattle.rules.specs.Conditions.{_and_, _or_, within, unless, all}
-use Rattle.rules.specs.Parts.{parties, serverAt, stateAt, messageAt, offsetAt, noticeAt}
+use Rattle.rules.specs.Conditions.{within, all}
+use Rattle.rules.specs.Parts.{noServer, parties, serverAt, stateAt, messageAt, offsetAt, noticeAt}
 use Rattle.rules.specs.Ranges.{configInRange, offsetInRange, serverInRange, noticeInRange, stateInRange, messageInRange, inRange, lastTime, lastInteraction, mostWaiting}
-use Rattle.rules.specs.Steps.{Action, isKnown, fieldsInRange, exists, stateAllows, ofPass, timeLeft, clockAllows, inTouch, ofNotice, isCredible, interactionLeft, roomLeft, effect, refusal}
+use Rattle.rules.specs.Steps.{freshServer, Action, isKnown, fieldsInRange, exists, stateAllows, ofPass, timeLeft, clockAllows, inTouch, ofNotice, isCredible, interactionLeft, roomLeft, effect, refusal}
 use Rattle.rules.proofs.Laws.{and-l, and-r, and-both, or-elim, or-l, or-r, within-low, within-high, unless-ok, all-at, all-by}
 use Rattle.rules.proofs.Cable.{Waits}
 
@@ -50,6 +51,10 @@ configured c t =
       mclt-high = within-high _ _ _ (and-l _ _ t₆);
       hold-high = leb→le _ _ (and-r _ _ t₆);
     }
+
+-- what holds of a fresh server holds of each server of a fresh facade
+pub of-fresh : (c : Config) → Configured c → (P : Server → Type 0) (k : ℕ) → k < c .servers → P freshServer → P (getD (replicate 4 freshServer) k noServer)
+of-fresh c ok P k h p = rw (getD-replicate 4 k freshServer noServer (omega (arith, ok .servers-high))) p
 
 -- A facade in range: the same as the test, part by part.
 

@@ -1,14 +1,14 @@
 -- One leader for each address: the half of demand 3 that is about leading.
 -- It is proved over any order of the servers in which no two have one rank; the round order is the instance.
-use mathlib.Core.Path.{_≡_, refl, sym, ap, _∙_, fun-ext}
+use mathlib.Core.Path.{_≡_, refl, sym, _∙_, fun-ext}
 use mathlib.Core.Logic.{_≢_}
 use mathlib.Core.Bool.{Bool, true, false, not, cond}
-use mathlib.Core.List.{List, [], _∷_}
-use Prim.Native.Nat.{ℕ, zero, suc, _+_, _-_, _*_, _%_, _≤_, _<_}
+use mathlib.Core.List.{List}
+use Prim.Native.Nat.{ℕ, zero, suc, _+_, _*_, _≤_, _<_}
 use native.Mathlib.Omega.{arith}
 use native.Mathlib.Decide.{ℕ-discrete, decLt}
-use lib.Dec.{T, leb, ltb, eqb, leb→le, ltb→lt, eqb→eq, eqb-refl}
-use lib.ListN.{length, getD, set, replicate, length-set, getD-replicate}
+use lib.Dec.{T, leb, ltb, eqb, leb→le, ltb→lt, eqb→eq}
+use lib.ListN.{length, getD, set, replicate, length-set}
 use lib.Seq.{getD-set-same, getD-set-other}
 use lib.IntN.{ℤ, pos, natAbs, _+ℤ_}
 use Rattle.types.specs.declared.Config.{Config}
@@ -19,17 +19,17 @@ use Rattle.types.specs.declared.Message.{Message}
 use Rattle.types.specs.declared.Facade.{Facade}
 use Rattle.types.specs.declared.Answer.{Answer}
 use Rattle.types.specs.declared.ServerAnswer.{ServerAnswer}
-use Rattle.rules.specs.Conditions.{_and_, _or_, all, filled}
-use Rattle.rules.specs.Clock.{plus, notNegative}
+use Rattle.rules.specs.Conditions.{_and_, all}
+use Rattle.rules.specs.Clock.{plus}
 use Rattle.rules.specs.Parts.{noServer, believes, leadsAt, serverAt, messageAt, offsetAt, clock, noticeAt, parties, writeAt, withLife, withMessages}
 use Rattle.rules.specs.Ranges.{offsetInRange, isServer}
 use Rattle.rules.specs.Messages.{without}
 use Rattle.rules.specs.Order.{rank, isFirst}
 use Rattle.rules.specs.Server.{leadDelay, leadsAfter, leadingWith, noticed, afterReturn, cleaned, offers, onDiscover, granted, dropped, grantable, grants, onRequest, onRenew, onWrite, matchesWrite, acknowledged, onWriteAck, serverHandles, serverReceives}
-use Rattle.rules.specs.Steps.{Action, pass, fail, return, notice, discover, request, renew, deliver, lose, cleanup, unknown, fresh, freshServer, exists, ofPass, clockAllows, inTouch, ofNotice, isCredible, rowNow, lapse, takenOut, handled, effect}
+use Rattle.rules.specs.Steps.{Action, pass, fail, return, notice, discover, request, renew, deliver, lose, cleanup, unknown, fresh, exists, ofPass, clockAllows, inTouch, ofNotice, isCredible, rowNow, lapse, takenOut, handled, effect}
 use Rattle.rules.proofs.Laws.{and-l, and-r, or-elim, clash, not-eqb, cond-case, all-at, set-case, set-any, rep-ind, rep-true, rep-false, length-filled, filled-at}
 use Rattle.rules.proofs.Clocks.{plus-low, plus-high, plus-later, plus-mono}
-use Rattle.rules.proofs.Kept.{Configured, configured, Ranged, Kept}
+use Rattle.rules.proofs.Kept.{of-fresh, Configured, configured, Ranged, Kept}
 
 -- Orders.
 
@@ -437,14 +437,11 @@ unfolding fresh
 led-fresh order c ok = record {
   servers = refl;
   notices = refl;
-  believed = λ k h. of-fresh (λ s. length (s .believed) ≡ 4) k h refl;
-  leads = λ k h. of-fresh (λ s. length (s .leads) ≡ 32) k h refl;
+  believed = λ k h. of-fresh c ok (λ s. length (s .believed) ≡ 4) k h refl;
+  leads = λ k h. of-fresh c ok (λ s. length (s .leads) ≡ 32) k h refl;
   l1 = λ k j _ _ _ _ _ _. omega (arith, rep-ind (λ x. x ≤ 0) 16 0 0 (k * 4 + j) (omega arith) (omega arith), ok .silence-low);
   l2 = λ k j _ _ _ _. omega arith;
-  l3 = λ j a h _. of-fresh (λ s. L3 (leadDelay c) (clock (fresh c) j) a (coreOf s)) j h (λ _ t. absurd (rep-false 32 a t));
-  l4 = λ j h. of-fresh (λ s. L4 (c .skew) (coreOf s)) j h (λ _. omega arith);
-  l5 = λ k j a h _ _. of-fresh (λ s. L5 order k j a (coreOf s)) k h (λ _ t. absurd (rep-false 32 a t));
+  l3 = λ j a h _. of-fresh c ok (λ s. L3 (leadDelay c) (clock (fresh c) j) a (coreOf s)) j h (λ _ t. absurd (rep-false 32 a t));
+  l4 = λ j h. of-fresh c ok (λ s. L4 (c .skew) (coreOf s)) j h (λ _. omega arith);
+  l5 = λ k j a h _ _. of-fresh c ok (λ s. L5 order k j a (coreOf s)) k h (λ _ t. absurd (rep-false 32 a t));
 }
-  where
-    of-fresh : (P : Server → Type 0) (k : ℕ) → k < c .servers → P freshServer → P (getD (replicate 4 freshServer) k noServer)
-    of-fresh P k h p = rw (getD-replicate 4 k freshServer noServer (omega (arith, ok .servers-high))) p

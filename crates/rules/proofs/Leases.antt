@@ -1,7 +1,7 @@
 -- Leases: the ends that are promised to clients, what covers them, and two shapes of a step that keep it so.
-use mathlib.Core.Path.{_≡_, refl, sym, ap, _∙_}
+use mathlib.Core.Path.{_≡_, refl, ap}
 use mathlib.Core.Logic.{_≢_}
-use mathlib.Core.Bool.{Bool, true, false}
+use mathlib.Core.Bool.{Bool, false}
 use mathlib.Core.List.{List}
 use Prim.Native.Nat.{ℕ, _+_, _≤_, _<_, max, min}
 use native.Mathlib.Nat.{le-refl}
@@ -51,7 +51,7 @@ clk w p = plus (w .time) (getD (w .offsets) p (pos 0))
 -- The invariant.
 
 -- end e for address a is covered: by the record of each live leader, and at each server
--- by its record or by what it would record on beginning to lead
+-- by its record or by what it would record at least on beginning to lead
 pub record Cov (w : World) (a e : ℕ) : Type 0 where
   pub led : (j : ℕ) → j < w .config .servers → T ((srv w j) .alive) → T (leadsAt (srv w j) a) → e ≤ recordAt (srv w j) a
   pub every : (j : ℕ) → j < w .config .servers → e ≤ max (recordAt (srv w j) a) (w .time + w .config .skew + w .config .mclt)

@@ -6,7 +6,7 @@ pub mod Kept
 pub mod Leadership
 pub mod Leases
 pub mod Granting
-pub mod Holding
+pub mod Clients
 pub mod Serving
 pub mod Delivery
 pub mod Ranges

@@ -512,7 +512,7 @@ module _ (f : Facade) (l : length (f .messages) ≡ 128) (v : Ranged f) where
 good : (f : Facade) (x : Action) → length (f .messages) ≡ 128 → refusal f x ≡ 0 → Good (effect f x)
 good f x l e = let y = kept f x e in good-effect f l (ranged f (y .range)) x y
 
--- A step that is not refused leaves the facade in range.
+-- A step that is not refused, of a facade whose message array has its 128 places, leaves the facade in range.
 pub in-range-kept : (f : Facade) (x : Action) → length (f .messages) ≡ 128 → refusal f x ≡ 0 → T (inRange ((effect f x) .facade))
 in-range-kept f x l e = in-range _ (good f x l e .range)
 

@@ -1,22 +1,21 @@
 -- Fail, return, notice and cleanup keep every promise covered.
-use mathlib.Core.Path.{_≡_, refl, sym, ap, _∙_}
+use mathlib.Core.Path.{_≡_, refl, _∙_}
 use mathlib.Core.Bool.{Bool, true, false, not, cond}
 use mathlib.Core.List.{List}
-use Prim.Native.Nat.{ℕ, _+_, _≤_, _<_, max}
+use Prim.Native.Nat.{ℕ, _≤_, _<_}
 use native.Mathlib.Nat.{le-refl}
 use native.Mathlib.Omega.{arith}
 use lib.Dec.{T, eqb, ltb→lt}
-use lib.ListN.{length, getD, set, replicate}
+use lib.ListN.{length, getD, set}
 use Rattle.types.specs.declared.Server.{Server}
-use Rattle.types.specs.declared.Message.{Message}
 use Rattle.types.specs.declared.Facade.{Facade}
 use Rattle.rules.specs.Conditions.{_and_, filled}
 use Rattle.rules.specs.Parts.{noWrite, serverAt, clock, leadsAt, recordAt, withLife}
 use Rattle.rules.specs.Messages.{nothing, sendAll}
-use Rattle.rules.specs.Server.{closed, leadRecord, leadsAfter, recordAfter, leadingWith, noticed, keptRecords, afterReturn, cleaned}
-use Rattle.rules.specs.Steps.{Action, fail, return, notice, cleanup, exists, rowNow, effect}
-use Rattle.rules.proofs.Laws.{Or, inl, inr, and-l, cond-case, rep-ind, rep-false, length-filled, filled-at, filled-any}
-use Rattle.rules.proofs.Cable.{Waits, waits-sent, waits-unsent}
+use Rattle.rules.specs.Server.{closed, leadsAfter, recordAfter, leadingWith, noticed, keptRecords, afterReturn, cleaned}
+use Rattle.rules.specs.Steps.{fail, return, notice, cleanup, exists, effect}
+use Rattle.rules.proofs.Laws.{inl, and-l, cond-case, rep-ind, rep-false, length-filled, filled-at, filled-any}
+use Rattle.rules.proofs.Cable.{Waits, waits-unsent}
 use Rattle.rules.proofs.Kept.{Configured, configured, Ranged, Kept}
 use Rattle.rules.proofs.Leadership.{OneLeader, clock-low}
 use Rattle.rules.proofs.Leases.{World, world, Cov, OpenOk, sent, Leased, body-grows, servedBy, Raised, served-grows, quiet, still}

@@ -1,12 +1,11 @@
 -- What a client does, on its own state x: c is the configuration, i its number, r its clock reading.
 -- A step that its state does not allow changes nothing, sends nothing and has outcome 1; the facade refuses it before.
 use mathlib.Core.Bool.{Bool, true, false, cond}
-use Prim.Native.Nat.{ℕ, _+_}
+use Prim.Native.Nat.{ℕ}
 use lib.Dec.{ltb, eqb}
 use Rattle.types.specs.declared.Config.{Config}
 use Rattle.types.specs.declared.State.{State}
 use Rattle.types.specs.declared.State.the-variants.{Idle, Asking, Offered, Waiting, Holding}
-use Rattle.types.specs.declared.Client.{Client}
 use Rattle.types.specs.declared.Body.{Body}
 use Rattle.types.specs.declared.Body.the-variants.{Empty, Discover, Offer, Request, Renew, Write, WriteAck, Ack}
 use Rattle.types.specs.declared.Message.{Message}

@@ -15,6 +15,7 @@ unfoldable pub _or_ : Bool → Bool → Bool
 true or b = true
 false or b = b
 
+-- low ≤ x ≤ high
 unfoldable pub within : ℕ → ℕ → ℕ → Bool
 within low high x = leb low x and leb x high
 

@@ -4,7 +4,7 @@ use mathlib.Core.Bool.{Bool, true, false}
 use mathlib.Core.List.{List, [], _∷_, _++_, map}
 use Prim.Native.Nat.{ℕ, _+_, _-_}
 use lib.ListN.{set, take, replicate}
-use lib.IntN.{ℤ, pos, negsuc}
+use lib.IntN.{pos, negsuc}
 use Rattle.types.specs.declared.Config.{Config}
 use Rattle.types.specs.declared.Reserved.{Reserved}
 use Rattle.types.specs.declared.Reserved.the-variants.{Free, Taken}

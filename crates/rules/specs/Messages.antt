@@ -1,6 +1,6 @@
 -- Messages: the outbox of a party, and the waiting messages of the facade in the order sent.
 use mathlib.Core.Bool.{Bool, true, false}
-use mathlib.Core.List.{List, [], _∷_, _++_}
+use mathlib.Core.List.{List, _∷_, _++_}
 use Prim.Native.Nat.{ℕ, zero, suc, _+_, _-_}
 use lib.Dec.{eqb}
 use lib.ListN.{getD, set, take, drop, replicate}
@@ -46,5 +46,6 @@ sendAll f o = withMessages f (sentBehind (f .messages) (f .waiting) o (o .count)
 unfoldable pub removed : List Message → ℕ → ℕ → List Message
 removed ms p n = take p ms ++ take (n - suc p) (drop (suc p) ms) ++ noMessage ∷ drop n ms
 
+-- the facade without the message at position p
 abbrev pub without : Facade → ℕ → Facade
 without f p = withMessages f (removed (f .messages) p (f .waiting)) (f .waiting - 1)

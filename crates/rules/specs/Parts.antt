@@ -1,16 +1,15 @@
 -- The parts of a facade: reading one, and replacing one.
 -- A reading outside an array gives what the code's reading would, `no..`: numbers 0, flags false, arrays empty, the first case.
-use mathlib.Core.Bool.{Bool, true, false}
-use mathlib.Core.List.{List, [], _∷_}
+use mathlib.Core.Bool.{Bool, false}
+use mathlib.Core.List.{List, []}
 use Prim.Native.Nat.{ℕ, _+_, _*_}
-use lib.ListN.{getD, set, replicate}
+use lib.ListN.{getD, set}
 use lib.IntN.{ℤ, pos}
 use Rattle.types.specs.declared.Config.{Config}
 use Rattle.types.specs.declared.Reserved.{Reserved}
-use Rattle.types.specs.declared.Reserved.the-variants.{Free, Taken}
+use Rattle.types.specs.declared.Reserved.the-variants.{Free}
 use Rattle.types.specs.declared.Reservation.{Reservation}
-use Rattle.types.specs.declared.Pending.{Pending}
-use Rattle.types.specs.declared.Pending.the-variants.{Closed, Open}
+use Rattle.types.specs.declared.Pending.the-variants.{Closed}
 use Rattle.types.specs.declared.OpenWrite.{OpenWrite}
 use Rattle.types.specs.declared.Server.{Server}
 use Rattle.types.specs.declared.State.{State}

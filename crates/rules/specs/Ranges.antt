@@ -1,10 +1,8 @@
 -- The ranges: of a configuration and of a facade handed in (refusal 2).
 -- Places from S, C, A and the waiting count on are no part of a facade: they are not looked at.
 use mathlib.Core.Bool.{Bool, true, false}
-use mathlib.Core.List.{List}
 use Prim.Native.Nat.{ℕ, _+_}
 use lib.Dec.{leb, ltb, eqb}
-use lib.ListN.{getD}
 use lib.IntN.{ℤ, natAbs}
 use Rattle.types.specs.declared.Config.{Config}
 use Rattle.types.specs.declared.Reserved.{Reserved}

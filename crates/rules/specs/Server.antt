@@ -9,7 +9,6 @@ use lib.ListN.{getD, set, replicate}
 use Rattle.types.specs.declared.Config.{Config}
 use Rattle.types.specs.declared.Reserved.{Reserved}
 use Rattle.types.specs.declared.Reserved.the-variants.{Free, Taken}
-use Rattle.types.specs.declared.Reservation.{Reservation}
 use Rattle.types.specs.declared.Pending.{Pending}
 use Rattle.types.specs.declared.Pending.the-variants.{Closed, Open}
 use Rattle.types.specs.declared.OpenWrite.{OpenWrite}
@@ -53,6 +52,7 @@ leadsAfter c k r s b a = isFirst (c .servers) a k b and (leadsAt s a or leb (s .
 unfoldable pub recordAfter : Config → ℕ → ℕ → Server → List Bool → ℕ → ℕ
 recordAfter c k r s b a = cond (leadsAfter c k r s b a and not (leadsAt s a)) (max (recordAt s a) (leadRecord c r)) (recordAt s a)
 
+-- the server with the set b, each address below A decided anew
 unfoldable pub leadingWith : Config → ℕ → ℕ → Server → List Bool → Server
 leadingWith c k r s b = withLeading s b (filled (leadsAfter c k r s b) (c .addresses) (s .leads)) (filled (recordAfter c k r s b) (c .addresses) (s .potlease))
 
@@ -90,6 +90,7 @@ unfoldable pub freedIfOld : Config → ℕ → Reserved → Reserved
 freedIfOld c r Free = Free
 freedIfOld c r (Taken q r′) = cond (ltb (r′ + c .hold) r) Free (Taken q r′)
 
+-- the server with its old reservations dropped
 unfoldable pub cleaned : Config → ℕ → Server → ServerAnswer
 cleaned c r s = answer (withReserved s (filled (λ a. record { state = freedIfOld c r (reservedAt s a) }) (c .addresses) (s .reserved))) 0 nothing
 
@@ -140,6 +141,7 @@ granted c k s p q a t l =
     0
     (toOthers k (λ j. message k j q (Write a (writtenEnd t l))) (c .servers) (post nothing (message k p q (Ack a (ackEnd t l)))))
 
+-- a reservation, free if it is one of q
 unfoldable pub freedIfOf : ℕ → Reserved → Reserved
 freedIfOf q Free = Free
 freedIfOf q (Taken q′ r) = cond (eqb q′ q) Free (Taken q′ r)
@@ -156,6 +158,7 @@ grantable c r s a = leadsAt s a and expired c r s a
 unfoldable pub grants : Config → ℕ → ℕ → Server → ℕ → ℕ → ℕ → ℕ → ServerAnswer
 grants c k r s p q a t = cond (grantable c r s a) (granted c k s p q a t (r + c .mclt)) (answer s 1 nothing)
 
+-- reservations of κ are dropped first
 unfoldable pub onRequest : Config → ℕ → ℕ → Server → ℕ → ℕ → ℕ → ℕ → ServerAnswer
 onRequest c k r s p q a t = grants c k r (dropped c q s) p q a t
 

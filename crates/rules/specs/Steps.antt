@@ -3,13 +3,10 @@ use mathlib.Core.Bool.{Bool, true, false, not, cond}
 use mathlib.Core.List.{List, [], _∷_}
 use Prim.Native.Nat.{ℕ, _+_, _-_, _*_}
 use lib.Dec.{leb, ltb, eqb}
-use lib.ListN.{getD, set, replicate}
+use lib.ListN.{set, replicate}
 use lib.IntN.{ℤ, pos, natAbs, _+ℤ_}
 use Rattle.types.specs.declared.Config.{Config}
 use Rattle.types.specs.declared.Server.{Server}
-use Rattle.types.specs.declared.State.{State}
-use Rattle.types.specs.declared.State.the-variants.{Idle, Asking, Offered, Waiting, Holding}
-use Rattle.types.specs.declared.Client.{Client}
 use Rattle.types.specs.declared.Message.{Message}
 use Rattle.types.specs.declared.Facade.{Facade}
 use Rattle.types.specs.declared.Step.{Step}
@@ -17,7 +14,7 @@ use Rattle.types.specs.declared.Answer.{Answer}
 use Rattle.types.specs.declared.ServerAnswer.{ServerAnswer}
 use Rattle.types.specs.declared.ClientAnswer.{ClientAnswer}
 use Rattle.rules.specs.Conditions.{_and_, _or_, within, unless, all, counted, filled}
-use Rattle.rules.specs.Clock.{plus, notNegative, signed}
+use Rattle.rules.specs.Clock.{notNegative, signed}
 use Rattle.rules.specs.Parts.{serverAt, stateAt, messageAt, offsetAt, noticeAt, clock, clientParty, parties, inState, noReservation, noClient, noMessage, withLife, withServer, withNotices, withClient, withClients, withTime, withNext}
 use Rattle.rules.specs.Ranges.{configInRange, inRange, endInRange, isServer, lastTime, lastInteraction, mostWaiting}
 use Rattle.rules.specs.Messages.{sendAll, without}
@@ -175,6 +172,7 @@ unfoldable pub isCredible : Facade → ℕ → ℕ → Bool
 isCredible f j says =
     cond (eqb says 1) ((serverAt f j) .alive) (not ((serverAt f j) .alive)) or ltb (f .time) ((serverAt f j) .changed + f .config .silence)
 
+-- a test of a notice alone
 unfoldable pub ofNotice : (ℕ → ℕ → Bool) → Action → Bool
 ofNotice g (pass d p e) = true
 ofNotice g (fail k) = true
@@ -282,9 +280,11 @@ refusal f x =
     (unless (roomLeft f x) 13
     0))))))))))
 
+-- refused with the first number, or accepted with its effect
 unfoldable pub answerTo : Facade → Action → Answer
 answerTo f x = cond (eqb (refusal f x) 0) (effect f x) (refused f (refusal f x))
 
+-- the answer to a step, for every facade, kind number and fields
 unfoldable pub step : Facade → Step → Answer
 step f s = answerTo f (action s)
 

@@ -1,5 +1,5 @@
 use borrow.Author.Needs.{needs}
-use mathlib.Core.Path.{_≡_, ap, _∙_}
+use mathlib.Core.Path.{ap, _∙_}
 use lib.Dec.{leb}
 use lib.IntN.{natAbs}
 use mir.Facts.{toZ-ofZ}

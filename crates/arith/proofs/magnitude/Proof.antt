@@ -1,7 +1,5 @@
 use borrow.Author.Needs.{needs}
 use native.Mathlib.Omega.{arith}
-use mathlib.Core.Path.{_≡_, ap, sym}
-use lib.IntN.{pos, natAbs}
 use mir.Facts.{toZ-ofZ}
 use Rattle.arith.proofs.Signs.{tested, below-zero, not-below, small, flip-fits, flip-read}
 use Rattle.arith.proofs.magnitude.Statement.{statement}

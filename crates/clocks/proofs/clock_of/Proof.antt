@@ -1,8 +1,8 @@
-use mathlib.Core.Path.{_≡_, refl, sym, ap, _∙_}
+use mathlib.Core.Path.{ap, _∙_}
 use mir.Syntax.{w32}
 use mir.Val.{SFits}
 use mir.Facts.{toZ-ofZ}
-use lib.IntN.{pos, natAbs, _+ℤ_}
+use lib.IntN.{pos}
 use lib.ListN.{getD}
 use Rattle.rules.specs.Clock.{plus}
 use borrow.Author.Needs.{needs}

@@ -1,4 +1,4 @@
-use mathlib.Core.Path.{_≡_, refl, sym, ap, _∙_}
+use mathlib.Core.Path.{refl}
 use Rattle.rules.specs.Steps.{rowNow}
 use borrow.Author.Needs.{needs}
 use Rattle.clocks.proofs.row_now.Statement.{statement}

@@ -1,8 +1,6 @@
-use mathlib.Core.Path.{_∙_, ap}
+use mathlib.Core.Path.{_∙_}
 use native.Mathlib.Omega.{arith}
 use borrow.Author.Tests.{lt-ltb, le-ltb, not-true, not-false}
-use Rattle.rules.specs.Server.{cleaned}
-use Rattle.rules.specs.Steps.{serverActs, effect}
 use Rattle.facade.proofs.Laws.{sizes, time-high, waiting-high, cleanup-6, cleanup-7, cleanup-last}
 use Rattle.facade.proofs.Parts.{cleanup-is, cleanup-sends}
 use borrow.Author.Needs.{needs}

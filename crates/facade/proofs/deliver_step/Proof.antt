@@ -1,8 +1,7 @@
-use mathlib.Core.Path.{_≡_, _∙_, sym, ap}
+use mathlib.Core.Path.{_≡_, _∙_}
 use native.Mathlib.Omega.{arith}
 use lib.ListN.{length}
 use borrow.Author.Tests.{lt-ltb, le-ltb}
-use Rattle.rules.specs.Steps.{fieldsInRange}
 use Rattle.outbox.proofs.Laws.{length-mapped}
 use Rattle.facade.proofs.Laws.{waiting-high, holds, fails, deliver-5, deliver-6, deliver-last}
 use Rattle.facade.proofs.Parts.{deliver-fields, taken-ready, delivered-is}

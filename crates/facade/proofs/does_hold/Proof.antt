@@ -1,4 +1,3 @@
-use Rattle.rules.specs.Conditions.{_and_}
 use borrow.Author.Needs.{needs}
 use Rattle.facade.proofs.does_hold.Statement.{statement}
 use Rattle.facade.proofs.does_hold.Tie as tie

@@ -1,4 +1,3 @@
-use mathlib.Core.Path.{_∙_, sym}
 use borrow.Author.Needs.{needs}
 use Rattle.rules.specs.Messages.{postUnless}
 use Rattle.outbox.proofs.post_unless.Statement.{statement}

@@ -1,15 +1,14 @@
 -- What a client does, and the passing of time, keep every promise covered: a client's hold is a promise that was in a message.
-use mathlib.Core.Path.{_≡_, refl, sym, ap, _∙_}
-use mathlib.Core.Logic.{_≢_}
+use mathlib.Core.Path.{_≡_, refl}
 use mathlib.Core.Bool.{Bool, true, false, not, cond}
 use mathlib.Core.List.{List}
-use Prim.Native.Nat.{ℕ, _+_, _-_, _≤_, _<_}
+use Prim.Native.Nat.{ℕ, _+_, _≤_, _<_}
 use native.Mathlib.Nat.{le-refl}
 use native.Mathlib.Omega.{arith}
 use native.Mathlib.Decide.{decLt}
 use lib.Dec.{T, ltb, ltb→lt}
 use lib.ListN.{length, getD, set, List·getD-eq-default}
-use lib.IntN.{ℤ, pos, _+ℤ_}
+use lib.IntN.{ℤ, _+ℤ_}
 use Rattle.types.specs.declared.State.{State}
 use Rattle.types.specs.declared.State.the-variants.{Idle, Asking, Offered, Waiting, Holding}
 use Rattle.types.specs.declared.Client.{Client}
@@ -19,15 +18,14 @@ use Rattle.types.specs.declared.Message.{Message}
 use Rattle.types.specs.declared.Facade.{Facade}
 use Rattle.types.specs.declared.ClientAnswer.{ClientAnswer}
 use Rattle.rules.specs.Conditions.{_and_, filled}
-use Rattle.rules.specs.Clock.{plus}
 use Rattle.rules.specs.Parts.{noClient, inState, stateAt, offsetAt, clock, clientParty, message, withNext}
-use Rattle.rules.specs.Messages.{nothing, sendAll}
+use Rattle.rules.specs.Messages.{nothing}
 use Rattle.rules.specs.Client.{isOffered, isHolding, reply, broadcast, lapsed, discovers, requests, renews, asksWith, onOffer, expects, newEnd, onAck, clientHandles, clientReceives}
-use Rattle.rules.specs.Steps.{Action, pass, discover, request, renew, stateAllows, exists, clientActs, moved, lapse, effect}
-use Rattle.rules.proofs.Laws.{Or, inl, inr, and-l, and-r, cond-case, set-any, length-filled, filled-at}
+use Rattle.rules.specs.Steps.{pass, discover, request, renew, stateAllows, exists, clientActs, moved, lapse, effect}
+use Rattle.rules.proofs.Laws.{Or, inl, inr, and-r, cond-case, set-any, length-filled, filled-at}
 use Rattle.rules.proofs.Cable.{Waits, Posted, ToServer, waits-sent, posted-nothing, posted-each}
 use Rattle.rules.proofs.Kept.{Configured, configured, Ranged, Kept}
-use Rattle.rules.proofs.Leases.{World, world, held, clk, Says, Promises, Claim, holds, sent, BodyOk, Leased, passedBy, plain}
+use Rattle.rules.proofs.Leases.{world, Says, Promises, Claim, holds, sent, BodyOk, Leased, passedBy, plain}
 
 no-holder : {X : Type 0} (a e q : ℕ) → Idle ≡ Holding a e q → X
 no-holder a e q p = let z : _≡_ {A = ℕ} 0 1 = cc in absurd (omega arith)
