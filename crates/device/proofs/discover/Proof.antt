@@ -1,0 +1,51 @@
+use Rattle.device.specs.Device.{deviceDiscovers}
+use Rattle.device.proofs.Laws.{first-holds, both-is, client-told, client-takes, client-refuses}
+use borrow.Author.Needs.{needs}
+use Rattle.device.proofs.discover.Statement.{statement}
+use Rattle.device.proofs.discover.Tie as tie
+
+client-fits-requires : tie.Need-client-fits-requires
+client-fits-requires c κs = search needs
+
+interaction-in-range-requires : tie.Need-interaction-in-range-requires
+interaction-in-range-requires c κs = search needs
+
+both-requires : tie.Need-both-requires
+both-requires c κs = search needs
+
+discover-requires : tie.Need-discover-requires
+discover-requires c κs =
+    client-told _ _ _ _
+    (first-holds _ _
+    (both-is _ _ _ _ _ _ (c .before .both .ensures) (c .before .before .before .client-fits .ensures) (c .before .before .interaction-in-range .ensures) (c .if1 .taken)))
+
+client-took-requires : tie.Need-client-took-requires
+client-took-requires c κs = search needs
+
+returns : tie.Need-returns
+unfolding deviceDiscovers
+returns c =
+    client-takes _ _ _ _ _ (c .client-took .ensures) (c .before .discover .ensures)
+    (both-is _ _ _ _ _ _ (c .before .before .before .both .ensures) (c .before .before .before .before .before .client-fits .ensures) (c .before .before .before .before .interaction-in-range .ensures) (c .before .before .if1 .taken))
+
+client-refused-requires : tie.Need-client-refused-requires
+client-refused-requires c κs = search needs
+
+returns-2 : tie.Need-returns-2
+unfolding deviceDiscovers
+returns-2 c =
+    client-refuses _ _ _ _ (c .client-refused .ensures)
+    (both-is _ _ _ _ _ _ (c .before .before .both .ensures) (c .before .before .before .before .client-fits .ensures) (c .before .before .before .interaction-in-range .ensures) (c .before .if1 .left))
+
+pub discover-spec : {M : Type 1} → statement M
+discover-spec =
+    tie.close
+    (tie.spec
+    client-fits-requires
+    interaction-in-range-requires
+    both-requires
+    discover-requires
+    client-took-requires
+    returns
+    client-refused-requires
+    returns-2)
