@@ -46,7 +46,7 @@ fn has_heard(f: Facade, now: u32, k: u32, j: u32) -> bool
     either(j == k, (now as u64) <= last)
 }
 
-// Server k is dead, or had a notice about every other.
+// Server k is dead, or had a notice about every other within ν.
 fn is_heard_by(f: Facade, now: u32, k: u32) -> bool
     requires { ⌜ (k < 4) × (f .config .servers ≤ 4) ⌝ }
     ensures { λ r. ⌜ r ≡ (not ((serverAt f k) .alive) or all (λ j. eqb j k or leb now (noticeAt f k j + f .config .silence)) (f .config .servers)) ⌝ }

@@ -105,7 +105,7 @@ pub fn take_notice(c: Config, k: u32, r: u32, s: Server, about: u32, says: u32) 
     server_refused(s)
 }
 
-// The server comes back after a failure.
+// The server comes back after a failure. Whether it is alive is not its own to say: `alive` stays as given.
 pub fn come_back(c: Config, k: u32, r: u32, s: Server) -> ServerReply
     ensures { λ x. ⌜ x ≡ deviceReturned c k r s ⌝ }
 {

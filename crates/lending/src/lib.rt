@@ -71,7 +71,7 @@ fn lowest_offerable(c: Config, r: u32, s: Server) -> u32
     a
 }
 
-// Address a is reserved for q and offered.
+// Address a is reserved for q and offered, if there is one: a is A where none is free.
 fn offer(c: Config, k: u32, r: u32, s: Server, p: u32, q: u32, a: u32) -> ServerAnswer
     requires { ⌜ Configured c ⌝ }
     ensures { λ x. ⌜ x ≡ offers c k r s p q a ⌝ }

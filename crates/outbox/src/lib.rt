@@ -30,7 +30,7 @@ pub fn nothing() -> Outbox
     }
 }
 
-// One message more.
+// One message more. There is room for four; servers send to the three others and one client.
 pub fn post(o: Outbox, m: Message) -> Outbox
     requires { ⌜ o .count ≤ 4 ⌝ }
     ensures { λ r. ⌜ r ≡ posted o m ⌝ }

@@ -26,14 +26,14 @@ ghost use Rattle.rules.proofs.Kept.{Configured};
 pub fn config_in_range(c: Config) -> bool
     ensures { λ r. ⌜ r ≡ configInRange c ⌝ }
 {
-    let rates = both(
+    let times = both(
         is_within(1, 10000, c.silence),
         both(is_within(1, 1000000, c.mclt), c.hold <= 1000000),
     );
-    let counts = both(is_within(1, 32, c.addresses), both(c.skew <= 1000, rates));
+    let most = both(is_within(1, 32, c.addresses), both(c.skew <= 1000, times));
     both(
         is_within(2, 4, c.servers),
-        both(is_within(1, 32, c.clients), counts),
+        both(is_within(1, 32, c.clients), most),
     )
 }
 
@@ -309,7 +309,7 @@ pub fn facade_in_range(f: Facade) -> bool
     false
 }
 
-// Whether the kind of a step is one of the ten.
+// Whether the kind of a step is one of the ten, for readers of steps that have no facade yet.
 pub fn is_known_kind(s: Step) -> bool
     ensures { λ r. ⌜ r ≡ isKnown (action s) ⌝ }
 {

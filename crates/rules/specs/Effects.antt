@@ -116,8 +116,8 @@ none = record { sender = 0; receiver = 0; interaction = 0; body = Empty }
 -- The clocks of the servers read 102, 98 and 101, those of the clients 99, 102, 100 and 101.
 -- Each server leads addresses 1 and 2, and has reservations and open writes. Odd are: sets from place 3 on, addresses from 4 on, server 3, clients from 4 on, messages from 3 on.
 
-abbrev box : ℕ → Bool → Server
-box n x =
+abbrev numbered : ℕ → Bool → Server
+numbered n x =
     serverOf true 95 (40 + n) (flags true true true x)
     (false ∷ true ∷ true ∷ false ∷ true ∷ true ∷ replicate 26 false)
     (map (λ x. record { state = x }) (Free ∷ Taken 4 85 ∷ Taken 3 89 ∷ Taken 4 91 ∷ Taken 4 7 ∷ replicate 27 Free))
@@ -139,7 +139,7 @@ abbrev odd : Facade
 odd =
     facadeOf (configOf 3 4 4 2 10 50 10) 100 9
     (pos 2 ∷ negsuc 1 ∷ pos 1 ∷ negsuc 0 ∷ pos 2 ∷ pos 0 ∷ pos 1 ∷ replicate 29 (pos 77))
-    (box 0 true ∷ box 1 true ∷ box 2 false ∷ through (life true 999 ∷ back 3000000000 ∷ []) (box 9 false) ∷ [])
+    (numbered 0 true ∷ numbered 1 true ∷ numbered 2 false ∷ through (life true 999 ∷ back 3000000000 ∷ []) (numbered 9 false) ∷ [])
     (999 ∷ 95 ∷ 96 ∷ 888 ∷ 97 ∷ 999 ∷ 98 ∷ 888 ∷ 99 ∷ 96 ∷ 999 ∷ 888 ∷ replicate 4 888)
     (map (λ x. record { state = x }) (Waiting 4 2 ∷ Offered 5 1 ∷ Holding 3 150 6 ∷ Asking 7 ∷ replicate 28 (Holding 31 7 4)))
     [] 0

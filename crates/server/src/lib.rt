@@ -1,4 +1,4 @@
-// What is sealed into a box: a server's notices, return and cleanup, and the messages that it handles.
+// What is sealed in: a server's notices, return and cleanup, and the messages that it handles.
 // c is the configuration, k the server's number, r its clock reading, s its value. A server knows no facade and no true time.
 use lending::closed;
 use lending::on_discover;
@@ -30,7 +30,7 @@ pub fn notice(c: Config, k: u32, r: u32, s: Server, about: u32, says: u32) -> Se
     leading::noticed(c, k, r, s, about, says)
 }
 
-// The server when it comes back: records survive, and all else is as new.
+// The server when it comes back: records survive, and all else of its own is as new.
 pub fn come_back(r: u32, s: Server) -> ServerAnswer
     ensures { λ x. ⌜ x ≡ afterReturn r s ⌝ }
 {
