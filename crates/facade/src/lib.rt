@@ -134,8 +134,8 @@ fn server_acts(f: Facade, k: u32, x: ServerAnswer) -> Answer
     let mut g = f;
     g.servers[at] = s;
     let sent = x.outbox;
-    let h = send_all(g, sent);
-    accepted(h, x.outcome)
+    let after = send_all(g, sent);
+    accepted(after, x.outcome)
 }
 
 // The same of client i.
