@@ -1,9 +1,8 @@
 -- What each step answers, by its tests: the refusals of `rules` for each kind, with the tests that the kind passes anyway left out.
 use mathlib.Core.Path.{_≡_, refl, sym, ap, _∙_}
-use mathlib.Core.Bool.{Bool, true, false, not, cond}
-use Prim.Native.Nat.{ℕ, _+_, _*_, _≤_, _<_}
+use mathlib.Core.Bool.{Bool, true, false, not}
+use Prim.Native.Nat.{ℕ, _+_, _*_, _≤_, _<_, _-_}
 use native.Mathlib.Omega.{arith}
-use borrow.Author.Tests.{not-true, not-false}
 use lib.Dec.{T, leb, ltb, eqb, leb→le, ltb→lt}
 use lib.IntN.{ℤ, natAbs}
 use lib.ListN.{set}
@@ -13,30 +12,17 @@ use Rattle.types.specs.declared.ServerAnswer.{ServerAnswer}
 use Rattle.types.specs.declared.Step.{Step}
 use Rattle.types.specs.declared.Facade.{Facade}
 use Rattle.types.specs.declared.Answer.{Answer}
-use Rattle.types.specs.declared.ClientAnswer.{ClientAnswer}
 use Rattle.rules.specs.Conditions.{_and_, within}
 use Rattle.rules.specs.Clock.{signed}
-use Rattle.rules.specs.Parts.{serverAt, stateAt, offsetAt, clock, parties, withNotices, withNext}
-use Rattle.rules.specs.Ranges.{inRange, offsetInRange, mostWaiting}
-use Rattle.rules.specs.Client.{isOffered, isHolding, discovers, requests, renews}
-use Rattle.rules.specs.Server.{noticed}
-use Rattle.rules.specs.Steps.{Action, pass, fail, return, notice, discover, request, renew, deliver, lose, cleanup, unknown, isKnown, fieldsInRange, exists, stateAllows, ofPass, timeLeft, clockAllows, inTouch, ofNotice, isCredible, interactionLeft, accepted, refused, serverActs, moved, lapse, effect, action, answerTo, clientActs}
+use Rattle.rules.specs.Parts.{serverAt, clock, withNotices, withLife, withServer}
+use Rattle.rules.specs.Ranges.{inRange}
+use Rattle.rules.specs.Server.{noticed, afterReturn, cleaned}
+use Rattle.rules.specs.Steps.{Action, pass, fail, return, notice, lose, cleanup, unknown, isKnown, fieldsInRange, exists, stateAllows, ofPass, timeLeft, clockAllows, inTouch, ofNotice, isCredible, interactionLeft, accepted, refused, serverActs, moved, lapse, effect, action, answerTo, rowNow, step}
 use Rattle.rules.proofs.Laws.{and-l, and-r, within-high}
-use Rattle.rules.proofs.Kept.{Configured, configured, ranged}
-use Rattle.rules.proofs.Leadership.{clock-high}
-use Rattle.rules.proofs.Actions.{action-pass, action-notice, action-request, action-renew}
-use Rattle.rules.proofs.Refusals.{refused-4, refused-5, refused-6, refused-7, refused-8, refused-9, refused-10, refused-11, refused-12, unless-full}
-
-pub true-of : (b : Bool) → T b → b ≡ true
-true-of true t = refl
-true-of false t = absurd t
-
--- the answer y is the effect, and the last test was made on it
-abbrev pub Last : Facade → Action → Answer → Type 0
-Last f x r = (y : Answer) → r ≡ cond (leb (y .facade .waiting) mostWaiting) y (refused f 13) → y ≡ effect f x → r ≡ answerTo f x
-
-last : (f : Facade) (x : Action) (r : Answer) → cond (leb ((effect f x) .facade .waiting) mostWaiting) (effect f x) (refused f 13) ≡ answerTo f x → Last f x r
-last f x r h y e q = e ∙ ap (λ (z : Answer). cond (leb (z .facade .waiting) mostWaiting) z (refused f 13)) q ∙ h
+use Rattle.rules.proofs.Actions.{action-pass, action-notice}
+use Rattle.rules.proofs.Refusals.{refused-4, refused-5, refused-6, refused-7, refused-8, refused-9, refused-10, refused-11, unless-full}
+use mathlib.Core.List.{List}
+use Rattle.answers.proofs.Laws.{true-of, Last, last, holds, sizes}
 
 module _ (f : Facade) (t : T (inRange f)) where
   e₂ : inRange f ≡ true
@@ -83,69 +69,7 @@ module _ (f : Facade) (t : T (inRange f)) where
       unfolding isKnown fieldsInRange exists stateAllows ofPass ofNotice interactionLeft
       cleanup-last e r = last f (cleanup k) r (unless-full f (cleanup k) e₂ refl refl e₆ e refl refl refl refl refl)
 
-  -- a step of a client: discover, request, renew
-  module _ (i : ℕ) where
-    pub discover-6 : ltb i (f .config .clients) ≡ false → refused f 6 ≡ answerTo f (discover i)
-    unfolding isKnown fieldsInRange exists
-    discover-6 e = refused-6 f (discover i) e₂ refl refl e
-
-    module _ (e₆ : ltb i (f .config .clients) ≡ true) where
-      pub discover-7 : isHolding (stateAt f i) ≡ true → refused f 7 ≡ answerTo f (discover i)
-      unfolding isKnown fieldsInRange exists stateAllows
-      discover-7 e = refused-7 f (discover i) e₂ refl refl e₆ (ap not e)
-
-      module _ (e₇ : isHolding (stateAt f i) ≡ false) where
-        pub discover-12 : leb (f .next) 1000000 ≡ false → refused f 12 ≡ answerTo f (discover i)
-        unfolding isKnown fieldsInRange exists stateAllows ofPass ofNotice interactionLeft
-        discover-12 e = refused-12 f (discover i) e₂ refl refl e₆ (ap not e₇) refl refl refl refl e
-
-        pub discover-last : leb (f .next) 1000000 ≡ true → (r : Answer) → Last f (discover i) r
-        unfolding isKnown fieldsInRange exists stateAllows ofPass ofNotice interactionLeft
-        discover-last e r = last f (discover i) r (unless-full f (discover i) e₂ refl refl e₆ (ap not e₇) refl refl refl refl e)
-
-    module _ (w : ℕ) where
-      pub request-5 : fieldsInRange (request i w) ≡ false → refused f 5 ≡ answerTo f (request i w)
-      unfolding isKnown
-      request-5 e = refused-5 f (request i w) e₂ refl e
-
-      pub renew-5 : fieldsInRange (renew i w) ≡ false → refused f 5 ≡ answerTo f (renew i w)
-      unfolding isKnown
-      renew-5 e = refused-5 f (renew i w) e₂ refl e
-
-      module _ (e₅ : fieldsInRange (request i w) ≡ true) where
-        pub request-6 : ltb i (f .config .clients) ≡ false → refused f 6 ≡ answerTo f (request i w)
-        unfolding isKnown exists
-        request-6 e = refused-6 f (request i w) e₂ refl e₅ e
-
-        module _ (e₆ : ltb i (f .config .clients) ≡ true) where
-          pub request-7 : isOffered (stateAt f i) ≡ false → refused f 7 ≡ answerTo f (request i w)
-          unfolding isKnown exists stateAllows
-          request-7 e = refused-7 f (request i w) e₂ refl e₅ e₆ e
-
-          pub request-last : isOffered (stateAt f i) ≡ true → (r : Answer) → Last f (request i w) r
-          unfolding isKnown exists stateAllows ofPass ofNotice interactionLeft
-          request-last e r = last f (request i w) r (unless-full f (request i w) e₂ refl e₅ e₆ e refl refl refl refl refl)
-
-      module _ (e₅ : fieldsInRange (renew i w) ≡ true) where
-        pub renew-6 : ltb i (f .config .clients) ≡ false → refused f 6 ≡ answerTo f (renew i w)
-        unfolding isKnown exists
-        renew-6 e = refused-6 f (renew i w) e₂ refl e₅ e
-
-        module _ (e₆ : ltb i (f .config .clients) ≡ true) where
-          pub renew-7 : isHolding (stateAt f i) ≡ false → refused f 7 ≡ answerTo f (renew i w)
-          unfolding isKnown exists stateAllows
-          renew-7 e = refused-7 f (renew i w) e₂ refl e₅ e₆ e
-
-          module _ (e₇ : isHolding (stateAt f i) ≡ true) where
-            pub renew-12 : leb (f .next) 1000000 ≡ false → refused f 12 ≡ answerTo f (renew i w)
-            unfolding isKnown exists stateAllows ofPass ofNotice interactionLeft
-            renew-12 e = refused-12 f (renew i w) e₂ refl e₅ e₆ e₇ refl refl refl refl e
-
-            pub renew-last : leb (f .next) 1000000 ≡ true → (r : Answer) → Last f (renew i w) r
-            unfolding isKnown exists stateAllows ofPass ofNotice interactionLeft
-            renew-last e r = last f (renew i w) r (unless-full f (renew i w) e₂ refl e₅ e₆ e₇ refl refl refl refl e)
-
-  -- deliver and lose
+  -- lose
   module _ (p : ℕ) where
     pub lose-6 : ltb p (f .waiting) ≡ false → refused f 6 ≡ answerTo f (lose p)
     unfolding isKnown fieldsInRange exists
@@ -154,20 +78,6 @@ module _ (f : Facade) (t : T (inRange f)) where
     pub lose-last : ltb p (f .waiting) ≡ true → (r : Answer) → Last f (lose p) r
     unfolding isKnown fieldsInRange exists stateAllows ofPass ofNotice interactionLeft
     lose-last e r = last f (lose p) r (unless-full f (lose p) e₂ refl refl e refl refl refl refl refl refl)
-
-    module _ (keep : ℕ) where
-      pub deliver-5 : fieldsInRange (deliver p keep) ≡ false → refused f 5 ≡ answerTo f (deliver p keep)
-      unfolding isKnown
-      deliver-5 e = refused-5 f (deliver p keep) e₂ refl e
-
-      module _ (e₅ : fieldsInRange (deliver p keep) ≡ true) where
-        pub deliver-6 : ltb p (f .waiting) ≡ false → refused f 6 ≡ answerTo f (deliver p keep)
-        unfolding isKnown exists
-        deliver-6 e = refused-6 f (deliver p keep) e₂ refl e₅ e
-
-        pub deliver-last : ltb p (f .waiting) ≡ true → (r : Answer) → Last f (deliver p keep) r
-        unfolding isKnown exists stateAllows ofPass ofNotice interactionLeft
-        deliver-last e r = last f (deliver p keep) r (unless-full f (deliver p keep) e₂ refl e₅ e refl refl refl refl refl refl)
 
   -- notice
   module _ (k j says : ℕ) where
@@ -228,34 +138,6 @@ module _ (f : Facade) (t : T (inRange f)) where
   unfolding isKnown
   unknown-4 = refused-4 f unknown e₂ refl
 
--- what the code knows of a test by the Bool r that a call answered
-pub holds : {b r : Bool} → r ≡ b → not r ≡ false → b ≡ true
-holds e h = sym e ∙ not-false _ h
-
-pub fails : {b r : Bool} → r ≡ b → not r ≡ true → b ≡ false
-fails e h = sym e ∙ not-true _ h
-
--- the numbers of a facade in range
-module _ (f : Facade) (t : T (inRange f)) where
-  pub sizes : Configured (f .config)
-  sizes = configured (f .config) ((ranged f t) .config)
-
-  pub time-high : f .time ≤ 1000000000
-  time-high = (ranged f t) .time
-
-  pub waiting-high : f .waiting ≤ 128
-  waiting-high = (ranged f t) .waiting
-
-  pub offset-high : (p : ℕ) → p < parties (f .config) → natAbs (offsetAt f p) ≤ 1000
-  unfolding offsetInRange
-  offset-high p h = omega (arith, sizes, leb→le (natAbs (offsetAt f p)) (f .config .skew) (and-l _ _ ((ranged f t) .offset p h)))
-
-  pub party-reading : (p : ℕ) → p < parties (f .config) → clock f p ≤ 1000001000
-  party-reading p h = omega (arith, sizes, time-high, clock-high f (ranged f t) p h)
-
-  pub reading-high : (k : ℕ) → k < f .config .servers → clock f k ≤ 1000001000
-  reading-high k h = party-reading k (omega arith)
-
 -- the fields of a notice, and the servers that it names
 pub notice-fields : (s : Step) → s .kind ≡ 4 → {r : Bool} → r ≡ fieldsInRange (action s) → r ≡ fieldsInRange (notice (s .first) (s .second) (s .third))
 notice-fields s h e = e ∙ ap fieldsInRange (action-notice s h)
@@ -304,36 +186,27 @@ pub notice-sends : (c : Config) (k r : ℕ) (s : Server) (j says : ℕ) (x : Ser
 unfolding noticed
 notice-sends c k r s j says x e = rw e (omega arith)
 
--- client i of a facade in range: what it is asked with, and that what it sends can be sent
-module _ (f : Facade) (t : T (inRange f)) (i : ℕ) (h : i < f .config .clients) where
-  pub client-below : i < 32
-  client-below = omega (arith, (sizes f t) .clients-high)
+-- a step is what its kind says
+pub step-is : (f : Facade) (s : Step) (x : Action) → action s ≡ x → answerTo f x ≡ step f s
+unfolding step
+step-is f s x e = ap (answerTo f) (sym e)
 
-  pub client-asks : Configured (f .config) × (i < f .config .clients)
-  client-asks = (sizes f t, h)
+-- return
+pub return-is : (f : Facade) (k r : ℕ) (x : ServerAnswer) (ts : List ℕ) (y : Answer)
+    → r ≡ clock f k → x ≡ afterReturn r (serverAt f k) → ts ≡ rowNow (f .notices) k (f .time)
+    → y ≡ accepted (withNotices (withServer f k (withLife (x .server) true (f .time))) ts) 0
+    → y ≡ effect f (return k)
+unfolding effect
+return-is f k r x ts y q h p e = e ∙ rw (h, q, p)
 
-  pub client-sends : (x y : ClientAnswer) → x ≡ y → y .outbox .count ≤ 4 → (i < 32) × (f .waiting ≤ 128) × (x .outbox .count ≤ 4)
-  client-sends x y e few = (client-below, waiting-high f t, rw e few)
+-- cleanup
+pub cleanup-is : (f : Facade) (k r : ℕ) (x : ServerAnswer) (y : Answer) → r ≡ clock f k → x ≡ cleaned (f .config) r (serverAt f k) → y ≡ serverActs f k x → y ≡ effect f (cleanup k)
+unfolding effect
+cleanup-is f k r x y q e p = rw (← q, ← e) p
 
--- the effects of a client's steps, by its answer x
-module _ (f : Facade) (i : ℕ) (x : ClientAnswer) (y : Answer) where
-  pub discover-does : x ≡ discovers (f .config) i (stateAt f i) (f .next) → y ≡ clientActs (withNext f (f .next + 1)) i x → y ≡ effect f (discover i)
-  unfolding effect
-  discover-does e q = q ∙ ap (clientActs (withNext f (f .next + 1)) i) e
+pub cleanup-sends : (c : Config) (r : ℕ) (s : Server) (x : ServerAnswer) → x ≡ cleaned c r s → x .outbox .count ≤ 4
+unfolding cleaned
+cleanup-sends c r s x e = rw e (omega arith)
 
-  module _ (w : ℕ) where
-    pub request-does : x ≡ requests (f .config) i (stateAt f i) w → y ≡ clientActs f i x → y ≡ effect f (request i w)
-    unfolding effect
-    request-does e q = q ∙ ap (clientActs f i) e
-
-    pub renew-does : x ≡ renews (f .config) i (stateAt f i) w (f .next) → y ≡ clientActs (withNext f (f .next + 1)) i x → y ≡ effect f (renew i w)
-    unfolding effect
-    renew-does e q = q ∙ ap (clientActs (withNext f (f .next + 1)) i) e
-
--- the fields of a request and of a renewal
-module _ (s : Step) where
-  pub request-fields : s .kind ≡ 6 → {r : Bool} → r ≡ fieldsInRange (action s) → r ≡ fieldsInRange (request (s .first) (s .second))
-  request-fields h e = e ∙ ap fieldsInRange (action-request s h)
-
-  pub renew-fields : s .kind ≡ 7 → {r : Bool} → r ≡ fieldsInRange (action s) → r ≡ fieldsInRange (renew (s .first) (s .second))
-  renew-fields h e = e ∙ ap fieldsInRange (action-renew s h)
+pub to-T : (b : Bool) → b ≡ true → T b
+to-T b e = rw e tt

@@ -1,11 +1,15 @@
 // The world around servers and clients: true time, clocks, notices and waiting messages, the refusals, and the ten steps.
+use answers::accepted;
+use answers::refused;
+use answers::server_acts;
+use answers::unless_full;
 use arith::as_signed;
 use arith::both;
-use cable::send_all;
-use cable::take_out;
+use asking::discover_step;
+use asking::renew_step;
+use asking::request_step;
 use cable::without;
 use client::is_holding;
-use client::is_offered;
 use clocks::clock_of;
 use clocks::does_clock_allow;
 use clocks::end_holds;
@@ -13,32 +17,30 @@ use clocks::is_credible_notice;
 use clocks::is_in_touch;
 use clocks::move_on;
 use clocks::row_now;
+use delivery::deliver_step;
 use lending::closed;
 use ranges::config_in_range;
 use ranges::facade_in_range;
 use ranges::fields_in_range;
 use types::Answer;
 use types::Client;
-use types::ClientAnswer;
 use types::Config;
 use types::Facade;
-use types::Message;
 use types::Reservation;
 use types::Reserved;
 use types::Server;
-use types::ServerAnswer;
 use types::State;
 use types::Step;
 ghost use mathlib.Core.Path.{_≡_};
 ghost use mathlib.Core.Bool.{cond};
 ghost use Prim.Native.Nat.{_+_, _≤_, _<_};
-ghost use lib.Dec.{T, leb, ltb};
+ghost use lib.Dec.{T, ltb};
 ghost use Rattle.rules.specs.Conditions.{_and_};
 ghost use Rattle.rules.specs.Parts.{stateAt};
 ghost use Rattle.rules.specs.Client.{isHolding};
 ghost use Rattle.rules.specs.Clock.{signed};
-ghost use Rattle.rules.specs.Ranges.{inRange, messageInRange};
-ghost use Rattle.rules.specs.Steps.{fresh as freshFacade, start, accepted as acceptedWith, refused as refusedWith, serverActs, clientActs, handled, answerTo, step as stepOf, heldClients, pass, fail, return, notice, discover, request, renew, deliver, lose, cleanup};
+ghost use Rattle.rules.specs.Ranges.{inRange};
+ghost use Rattle.rules.specs.Steps.{fresh as freshFacade, start, answerTo, step as stepOf, heldClients, pass, fail, return, notice, lose, cleanup};
 
 // Before any step. All places are filled alike.
 fn fresh_facade(c: Config) -> Facade
@@ -91,65 +93,6 @@ pub fn fresh(c: Config) -> Answer
         outcome: 0,
         facade: f,
     }
-}
-
-// A refused step returns the facade it was given.
-fn refused(f: Facade, n: u32) -> Answer
-    ensures { λ r. ⌜ r ≡ refusedWith f n ⌝ }
-{
-    Answer {
-        refusal: n,
-        outcome: 0,
-        facade: f,
-    }
-}
-
-fn accepted(f: Facade, n: u32) -> Answer
-    ensures { λ r. ⌜ r ≡ acceptedWith f n ⌝ }
-{
-    Answer {
-        refusal: 0,
-        outcome: n,
-        facade: f,
-    }
-}
-
-// Refusal 13, the last: the answer x, unless more than 128 messages would wait.
-fn unless_full(f: Facade, x: Answer) -> Answer
-    ensures { λ r. ⌜ r ≡ cond (leb (x .facade .waiting) 128) x (refusedWith f 13) ⌝ }
-{
-    if x.facade.waiting <= 128 {
-        return x;
-    }
-    refused(f, 13)
-}
-
-// Server k is as it answered, and what it sends waits.
-fn server_acts(f: Facade, k: u32, x: ServerAnswer) -> Answer
-    requires { ⌜ (k < 4) × (f .waiting ≤ 128) × (x .outbox .count ≤ 4) ⌝ }
-    ensures { λ r. ⌜ r ≡ serverActs f k x ⌝ }
-{
-    let at = k as usize;
-    let s = x.server;
-    let mut g = f;
-    g.servers[at] = s;
-    let sent = x.outbox;
-    let after = send_all(g, sent);
-    accepted(after, x.outcome)
-}
-
-// The same of client i.
-fn client_acts(f: Facade, i: u32, x: ClientAnswer) -> Answer
-    requires { ⌜ (i < 32) × (f .waiting ≤ 128) × (x .outbox .count ≤ 4) ⌝ }
-    ensures { λ r. ⌜ r ≡ clientActs f i x ⌝ }
-{
-    let at = i as usize;
-    let y = x.client;
-    let mut g = f;
-    g.clients[at] = y;
-    let sent = x.outbox;
-    let h = send_all(g, sent);
-    accepted(h, x.outcome)
 }
 
 // Step 1: pass.
@@ -254,122 +197,6 @@ fn notice_step(f: Facade, s: Step) -> Answer
     g.notices[about] = f.time;
     let x = server::notice(c, k, clock_of(f, k), own, j, s.third);
     unless_full(f, server_acts(g, k, x))
-}
-
-// Step 5: discover.
-fn discover_step(f: Facade, i: u32) -> Answer
-    requires { ⌜ T (inRange f) ⌝ }
-    ensures { λ r. ⌜ r ≡ answerTo f (discover i) ⌝ }
-{
-    let c = f.config;
-    if c.clients <= i {
-        return refused(f, 6);
-    }
-    let at = i as usize;
-    let y = f.clients[at];
-    let state = y.state;
-    if is_holding(state) {
-        return refused(f, 7);
-    }
-    if 1000000 < f.next {
-        return refused(f, 12);
-    }
-    let x = client::discover(c, i, state, f.next);
-    let mut g = f;
-    g.next = f.next + 1;
-    unless_full(f, client_acts(g, i, x))
-}
-
-// Step 6: request.
-fn request_step(f: Facade, s: Step) -> Answer
-    requires { ⌜ T (inRange f) × (s .kind ≡ 6) ⌝ }
-    ensures { λ r. ⌜ r ≡ answerTo f (request (s .first) (s .second)) ⌝ }
-{
-    let c = f.config;
-    let i = s.first;
-    if !fields_in_range(s) {
-        return refused(f, 5);
-    }
-    if c.clients <= i {
-        return refused(f, 6);
-    }
-    let at = i as usize;
-    let y = f.clients[at];
-    let state = y.state;
-    if !is_offered(state) {
-        return refused(f, 7);
-    }
-    let x = client::request(c, i, state, s.second);
-    unless_full(f, client_acts(f, i, x))
-}
-
-// Step 7: renew.
-fn renew_step(f: Facade, s: Step) -> Answer
-    requires { ⌜ T (inRange f) × (s .kind ≡ 7) ⌝ }
-    ensures { λ r. ⌜ r ≡ answerTo f (renew (s .first) (s .second)) ⌝ }
-{
-    let c = f.config;
-    let i = s.first;
-    if !fields_in_range(s) {
-        return refused(f, 5);
-    }
-    if c.clients <= i {
-        return refused(f, 6);
-    }
-    let at = i as usize;
-    let y = f.clients[at];
-    let state = y.state;
-    if !is_holding(state) {
-        return refused(f, 7);
-    }
-    if 1000000 < f.next {
-        return refused(f, 12);
-    }
-    let x = client::renew(c, i, state, s.second, f.next);
-    let mut g = f;
-    g.next = f.next + 1;
-    unless_full(f, client_acts(g, i, x))
-}
-
-// Step 8: deliver.
-
-// Message m is handled by the party that it is for.
-fn handle(f: Facade, m: Message) -> Answer
-    requires { ⌜ T (inRange f) × T (messageInRange (f .config) (f .next) m) ⌝ }
-    ensures { λ r. ⌜ r ≡ handled f m ⌝ }
-{
-    let c = f.config;
-    let to = m.receiver;
-    let r = clock_of(f, to);
-    if to < c.servers {
-        let at = to as usize;
-        let s = f.servers[at];
-        let x = server::receive(c, to, r, s, m);
-        return server_acts(f, to, x);
-    }
-    let i = to - c.servers;
-    let at = i as usize;
-    let y = f.clients[at];
-    let state = y.state;
-    let x = client::receive(r, state, m);
-    client_acts(f, i, x)
-}
-
-fn deliver_step(f: Facade, s: Step) -> Answer
-    requires { ⌜ T (inRange f) × (s .kind ≡ 8) ⌝ }
-    ensures { λ r. ⌜ r ≡ answerTo f (deliver (s .first) (s .second)) ⌝ }
-{
-    let p = s.first;
-    if !fields_in_range(s) {
-        return refused(f, 5);
-    }
-    if f.waiting <= p {
-        return refused(f, 6);
-    }
-    let at = p as usize;
-    let m = f.messages[at];
-    let g = take_out(f, p, s.second);
-    unless_full(f, handle(g, m))
 }
 
 // Step 9: lose.

@@ -57,8 +57,9 @@ fn record_after(c: Config, k: u32, r: u32, s: Server, b: [bool; 4], a: u32) -> u
     ensures { λ v. ⌜ v ≡ recordAfter c k r s b a ⌝ }
 {
     let at = a as usize;
+    let before = s.leads[at];
     let now = leads_after(c, k, r, s, b, a);
-    if both(now, !s.leads[at]) {
+    if both(now, !before) {
         return larger(s.potlease[at], r + c.mclt + 2 * c.skew);
     }
     s.potlease[at]

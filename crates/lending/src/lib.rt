@@ -22,7 +22,7 @@ ghost use lib.ListN.{getD, set, replicate};
 ghost use Rattle.rules.specs.Conditions.{all, lowest};
 ghost use Rattle.rules.specs.Parts.{message, recordAt, withLease};
 ghost use Rattle.rules.specs.Messages.{nothing as nothingSent, post as posted, toOthers};
-ghost use Rattle.rules.specs.Server.{opened, expired, isFree, offerable, offers, onDiscover, granted, freedIfOf, dropped, grantable, grants, onRequest, onRenew, onWrite, matchesWrite, acknowledged, onWriteAck, closed as closedWrite};
+ghost use Rattle.rules.specs.Server.{opened, expired, isFree, offerable, offers, onDiscover, granted, freedIfOf, dropped, onRequest, onRenew, onWrite, matchesWrite, acknowledged, onWriteAck, closed as closedWrite};
 ghost use Rattle.rules.proofs.Kept.{Configured};
 
 // Whether the record for address a has passed by more than 2Δ.
@@ -209,32 +209,7 @@ fn drop_reservations(c: Config, q: u32, s: Server) -> Server
     t
 }
 
-// A request, after reservations of its interaction are dropped.
-fn answer_request(
-    c: Config,
-    k: u32,
-    r: u32,
-    s: Server,
-    p: u32,
-    q: u32,
-    a: u32,
-    t: u32,
-) -> ServerAnswer
-    requires { ⌜ Configured c × (k < c .servers) × (a < c .addresses) × (r ≤ 1000001000) ⌝ }
-    ensures { λ x. ⌜ x ≡ grants c k r s p q a t ⌝ }
-{
-    let at = a as usize;
-    if both(s.leads[at], is_expired(c, r, s, a)) {
-        return grant(c, k, s, p, q, a, t, r + c.mclt);
-    }
-    let none = nothing();
-    ServerAnswer {
-        server: s,
-        outcome: 1,
-        outbox: none,
-    }
-}
-
+// A request for address a until t.
 pub fn on_request(
     c: Config,
     k: u32,
@@ -248,8 +223,17 @@ pub fn on_request(
     requires { ⌜ Configured c × (k < c .servers) × (a < c .addresses) × (r ≤ 1000001000) ⌝ }
     ensures { λ x. ⌜ x ≡ onRequest c k r s p q a t ⌝ }
 {
+    let at = a as usize;
     let kept = drop_reservations(c, q, s);
-    answer_request(c, k, r, kept, p, q, a, t)
+    if both(kept.leads[at], is_expired(c, r, kept, a)) {
+        return grant(c, k, kept, p, q, a, t, r + c.mclt);
+    }
+    let none = nothing();
+    ServerAnswer {
+        server: kept,
+        outcome: 1,
+        outbox: none,
+    }
 }
 
 // A renewal of address a with the old end e.

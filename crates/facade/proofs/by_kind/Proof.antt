@@ -1,7 +1,6 @@
 use mathlib.Core.Path.{_∙_}
 use Rattle.rules.proofs.Actions.{action-pass, action-fail, action-return, action-notice, action-discover, action-request, action-renew, action-deliver, action-lose, action-cleanup, action-unknown}
-use Rattle.facade.proofs.Laws.{unknown-4}
-use Rattle.facade.proofs.Parts.{step-is}
+use Rattle.facade.proofs.Laws.{unknown-4, step-is}
 use borrow.Author.Needs.{needs}
 use Rattle.facade.proofs.by_kind.Statement.{statement}
 use Rattle.facade.proofs.by_kind.Tie as tie

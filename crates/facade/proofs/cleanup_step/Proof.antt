@@ -1,8 +1,8 @@
 use mathlib.Core.Path.{_∙_}
 use native.Mathlib.Omega.{arith}
 use borrow.Author.Tests.{lt-ltb, le-ltb, not-true, not-false}
-use Rattle.facade.proofs.Laws.{sizes, time-high, waiting-high, cleanup-6, cleanup-7, cleanup-last}
-use Rattle.facade.proofs.Parts.{cleanup-is, cleanup-sends}
+use Rattle.answers.proofs.Laws.{sizes, time-high, waiting-high}
+use Rattle.facade.proofs.Laws.{cleanup-6, cleanup-7, cleanup-last, cleanup-is, cleanup-sends}
 use borrow.Author.Needs.{needs}
 use Rattle.facade.proofs.cleanup_step.Statement.{statement}
 use Rattle.facade.proofs.cleanup_step.Tie as tie

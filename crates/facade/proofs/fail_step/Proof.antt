@@ -2,7 +2,8 @@ use mathlib.Core.Path.{_∙_}
 use native.Mathlib.Omega.{arith}
 use borrow.Author.Tests.{lt-ltb, le-ltb, not-true, not-false}
 use Rattle.rules.specs.Steps.{effect}
-use Rattle.facade.proofs.Laws.{sizes, fail-6, fail-7, fail-last}
+use Rattle.answers.proofs.Laws.{sizes}
+use Rattle.facade.proofs.Laws.{fail-6, fail-7, fail-last}
 use borrow.Author.Needs.{needs}
 use Rattle.facade.proofs.fail_step.Statement.{statement}
 use Rattle.facade.proofs.fail_step.Tie as tie

@@ -2,7 +2,8 @@ use mathlib.Core.Path.{_∙_}
 use native.Mathlib.Omega.{arith}
 use borrow.Author.Needs.{needs}
 use borrow.Author.Tests.{not-true, not-false}
-use Rattle.facade.proofs.Laws.{holds, fails, sizes, time-high, waiting-high, reading-high, notice-fields, notice-names, named, notice-effect, notice-sends, notice-5, notice-6, notice-7, notice-11, notice-last}
+use Rattle.answers.proofs.Laws.{holds, fails, sizes, time-high, waiting-high, reading-high}
+use Rattle.facade.proofs.Laws.{notice-fields, notice-names, named, notice-effect, notice-sends, notice-5, notice-6, notice-7, notice-11, notice-last}
 use Rattle.facade.proofs.notice_step.Statement.{statement}
 use Rattle.facade.proofs.notice_step.Tie as tie
 

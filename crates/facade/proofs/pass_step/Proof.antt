@@ -6,7 +6,8 @@ use borrow.Author.Needs.{needs}
 use borrow.Author.Tests.{lt-ltb, le-ltb, le-leb, lt-leb}
 use Rattle.rules.specs.Clock.{signed}
 use Rattle.rules.specs.Steps.{exists, timeLeft, clockAllows, moved}
-use Rattle.facade.proofs.Laws.{holds, fails, sizes, time-high, offset-high, pass-fields, pass-moves, pass-effect, pass-5, pass-6, pass-8, pass-9, pass-10, pass-last}
+use Rattle.answers.proofs.Laws.{holds, fails, sizes, time-high, offset-high}
+use Rattle.facade.proofs.Laws.{pass-fields, pass-moves, pass-effect, pass-5, pass-6, pass-8, pass-9, pass-10, pass-last}
 use Rattle.facade.proofs.pass_step.Statement.{statement}
 use Rattle.facade.proofs.pass_step.Tie as tie
 

@@ -1,8 +1,8 @@
 use mathlib.Core.Path.{_∙_}
 use native.Mathlib.Omega.{arith}
 use borrow.Author.Tests.{lt-ltb, le-ltb}
-use Rattle.facade.proofs.Laws.{sizes, time-high, return-6, return-7, return-last}
-use Rattle.facade.proofs.Parts.{return-is}
+use Rattle.answers.proofs.Laws.{sizes, time-high}
+use Rattle.facade.proofs.Laws.{return-6, return-7, return-last, return-is}
 use borrow.Author.Needs.{needs}
 use Rattle.facade.proofs.return_step.Statement.{statement}
 use Rattle.facade.proofs.return_step.Tie as tie

@@ -1,7 +1,7 @@
 use mathlib.Core.Path.{refl, sym, _∙_}
 use Rattle.rules.specs.Steps.{action}
 use Rattle.rules.proofs.Refusals.{refused-2}
-use Rattle.facade.proofs.Parts.{to-T, step-is}
+use Rattle.facade.proofs.Laws.{to-T, step-is}
 use borrow.Author.Needs.{needs}
 use Rattle.facade.proofs.step.Statement.{statement}
 use Rattle.facade.proofs.step.Tie as tie

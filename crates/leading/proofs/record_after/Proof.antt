@@ -4,11 +4,11 @@ use borrow.Author.Needs.{needs}
 use Rattle.leading.proofs.record_after.Statement.{statement}
 use Rattle.leading.proofs.record_after.Tie as tie
 
+element-copy-out-before : tie.Need-element-copy-out-before
+element-copy-out-before c = search needs
+
 leads-after-requires : tie.Need-leads-after-requires
 leads-after-requires c κs = search needs
-
-element-copy-out-both : tie.Need-element-copy-out-both
-element-copy-out-both c = search needs
 
 both-requires : tie.Need-both-requires
 both-requires c κs = search needs
@@ -33,7 +33,7 @@ larger-requires c κs = search needs
 
 returns : tie.Need-returns
 unfolding recordAfter
-returns c = rw (← c .before .before .before .before .before .before .before .leads-after .ensures, sym (c .before .before .before .before .before .both .ensures) ∙ c .before .before .before .before .if1 .taken) (c .larger .ensures)
+returns c = rw (← c .before .before .before .before .before .before .leads-after .ensures, sym (c .before .before .before .before .before .both .ensures) ∙ c .before .before .before .before .if1 .taken) (c .larger .ensures)
 
 mul-result : tie.Need-mul-result
 mul-result c = search needs
@@ -43,14 +43,14 @@ element-copy-out-result c = search needs
 
 returns-2 : tie.Need-returns-2
 unfolding recordAfter
-returns-2 c = rw (← c .before .before .before .before .leads-after .ensures, sym (c .before .before .both .ensures) ∙ c .before .if1 .left)
+returns-2 c = rw (← c .before .before .before .leads-after .ensures, sym (c .before .before .both .ensures) ∙ c .before .if1 .left)
 
 pub record-after-spec : {M : Type 1} → statement M
 record-after-spec =
     tie.close
     (tie.spec
+    element-copy-out-before
     leads-after-requires
-    element-copy-out-both
     both-requires
     mul-larger
     element-copy-out-larger
