@@ -1,5 +1,5 @@
 -- What the steps of every kind share: the last test, and the numbers of a facade in range.
-use mathlib.Core.Path.{_≡_, refl, sym, ap, _∙_}
+use mathlib.Core.Path.{_≡_, sym, ap, _∙_}
 use mathlib.Core.Bool.{Bool, true, false, not, cond}
 use Prim.Native.Nat.{ℕ, _≤_, _<_}
 use native.Mathlib.Omega.{arith}
@@ -15,10 +15,6 @@ use Rattle.rules.specs.Steps.{Action, refused, effect, answerTo}
 use Rattle.rules.proofs.Laws.{and-l}
 use Rattle.rules.proofs.Kept.{Configured, configured, ranged}
 use Rattle.rules.proofs.Leadership.{clock-high}
-
-pub true-of : (b : Bool) → T b → b ≡ true
-true-of true t = refl
-true-of false t = absurd t
 
 -- the answer y is the effect, and the last test was made on it
 abbrev pub Last : Facade → Action → Answer → Type 0

@@ -12,10 +12,11 @@ use Rattle.rules.specs.Parts.{stateAt, withNext}
 use Rattle.rules.specs.Ranges.{inRange}
 use Rattle.rules.specs.Client.{isOffered, isHolding, discovers, requests, renews}
 use Rattle.rules.specs.Steps.{discover, request, renew, isKnown, fieldsInRange, exists, stateAllows, ofPass, ofNotice, interactionLeft, refused, effect, action, answerTo, clientActs}
+use Rattle.rules.proofs.Laws.{true-of}
 use Rattle.rules.proofs.Kept.{Configured}
 use Rattle.rules.proofs.Actions.{action-request, action-renew}
 use Rattle.rules.proofs.Refusals.{refused-5, refused-6, refused-7, refused-12, unless-full}
-use Rattle.answers.proofs.Laws.{true-of, Last, last, sizes, waiting-high}
+use Rattle.answers.proofs.Laws.{Last, last, sizes, waiting-high}
 
 module _ (f : Facade) (t : T (inRange f)) where
   e₂ : inRange f ≡ true

@@ -19,7 +19,7 @@ use Rattle.rules.specs.Ranges.{inRange, isServer, bodyInRange, messageInRange}
 use Rattle.rules.specs.Client.{clientReceives}
 use Rattle.rules.specs.Server.{serverReceives}
 use Rattle.rules.specs.Steps.{deliver, lose, isKnown, fieldsInRange, exists, stateAllows, ofPass, ofNotice, interactionLeft, refused, serverActs, effect, action, answerTo, clientActs, roomLeft, refusal, takenOut, handled}
-use Rattle.rules.proofs.Laws.{and-r, cond-case}
+use Rattle.rules.proofs.Laws.{true-of, and-r, cond-case}
 use Rattle.rules.proofs.Kept.{Configured, ranged}
 use Rattle.rules.proofs.Actions.{action-deliver}
 use Rattle.rules.proofs.Refusals.{refused-5, refused-6, unless-full}
@@ -30,7 +30,7 @@ use Rattle.rules.specs.Messages.{without}
 use Rattle.rules.proofs.Counts.{few-received, few-replied}
 use Rattle.rules.proofs.Ranges.{in-range-kept}
 use Rattle.rules.proofs.Delivery.{for-client}
-use Rattle.answers.proofs.Laws.{true-of, Last, last}
+use Rattle.answers.proofs.Laws.{Last, last}
 
 module _ (f : Facade) (t : T (inRange f)) where
   e₂ : inRange f ≡ true

@@ -18,11 +18,11 @@ use Rattle.rules.specs.Parts.{serverAt, clock, withNotices, withLife, withServe
 use Rattle.rules.specs.Ranges.{inRange}
 use Rattle.rules.specs.Server.{noticed, afterReturn, cleaned}
 use Rattle.rules.specs.Steps.{Action, pass, fail, return, notice, lose, cleanup, unknown, isKnown, fieldsInRange, exists, stateAllows, ofPass, timeLeft, clockAllows, inTouch, ofNotice, isCredible, interactionLeft, accepted, refused, serverActs, moved, lapse, effect, action, answerTo, rowNow, step}
-use Rattle.rules.proofs.Laws.{and-l, and-r, within-high}
+use Rattle.rules.proofs.Laws.{true-of, and-l, and-r, within-high}
 use Rattle.rules.proofs.Actions.{action-pass, action-notice}
 use Rattle.rules.proofs.Refusals.{refused-4, refused-5, refused-6, refused-7, refused-8, refused-9, refused-10, refused-11, unless-full}
 use mathlib.Core.List.{List}
-use Rattle.answers.proofs.Laws.{true-of, Last, last, holds, sizes}
+use Rattle.answers.proofs.Laws.{Last, last, holds, sizes}
 
 module _ (f : Facade) (t : T (inRange f)) where
   e₂ : inRange f ≡ true

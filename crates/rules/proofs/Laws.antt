@@ -19,6 +19,10 @@ pub data Or (A B : Type 0) : Type 0 where
 
 -- Tests.
 
+pub true-of : (b : Bool) → T b → b ≡ true
+true-of true t = refl
+true-of false t = absurd t
+
 pub and-l : (a b : Bool) → T (a and b) → T a
 unfolding _and_
 and-l true b t = tt

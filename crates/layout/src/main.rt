@@ -1,0 +1,180 @@
+// Scripts at the edges of the layout. First the verdict on each stored script that an argument names; then the example of
+// document 01, written from its steps and read back; then what the writer answers at its own edges, and the buffer after it.
+use libc::STDOUT_FILENO;
+use types::Config;
+ghost use mathlib.Core.Path.{_≡_};
+
+// The steps of the example, four numbers each: kind and fields.
+const EXAMPLE: [u32; 56] = [
+    1,
+    5,
+    0,
+    0,
+    4,
+    0,
+    1,
+    1,
+    4,
+    1,
+    0,
+    1,
+    1,
+    5,
+    0,
+    0,
+    4,
+    0,
+    1,
+    1,
+    4,
+    1,
+    0,
+    1,
+    1,
+    5,
+    0,
+    0,
+    5,
+    0,
+    0,
+    0,
+    8,
+    0,
+    0,
+    0,
+    8,
+    1,
+    0,
+    0,
+    6,
+    0,
+    100,
+    0,
+    8,
+    1,
+    0,
+    0,
+    8,
+    2,
+    0,
+    0,
+    5,
+    0,
+    0,
+    0,
+];
+
+// A pass of no time, then a step of no known kind: the first is refused.
+const TWO_WRONG: [u32; 8] = [1, 0, 0, 0, 99, 0, 0, 0];
+
+fn print_field(n: u32) {
+    io::write_all(STDOUT_FILENO, b" ");
+    io::print_decimal(STDOUT_FILENO, n as u64);
+}
+
+// The name of a script and its verdict.
+fn judge(i: usize) {
+    let mut path = io::buffer();
+    let n = os::arg(i, &mut path);
+    let fd = os::open_read(&path[..n]);
+    if fd < 0 {
+        os::fail(&path[..n]);
+        return;
+    }
+    let mut bytes = [0u8; 65537];
+    let k = io::read_full(fd, &mut bytes);
+    libc::close(fd);
+    io::write_all(STDOUT_FILENO, &path[..n]);
+    print_field(script::verdict(&bytes[..k]));
+    io::write_all(STDOUT_FILENO, b"\n");
+}
+
+fn wide(x: u8) -> u64
+    ensures { λ r. ⌜ r ≡ x ⌝ }
+{
+    x as u64
+}
+
+// Bytes in hexadecimal, on one line.
+fn print_bytes(b: &[u8]) {
+    let mut i = 0;
+    while i < b.len() {
+        io::print_hex(STDOUT_FILENO, wide(b[i]), 2);
+        i += 1;
+    }
+    io::write_all(STDOUT_FILENO, b"\n");
+}
+
+// The steps of a script, a line for each: kind and fields.
+fn print_steps(s: &[u8]) {
+    let mut p = 29;
+    while p < s.len() {
+        let r = script::record_at(s, p);
+        io::write_all(STDOUT_FILENO, b"step");
+        print_field(r.step.kind);
+        print_field(r.step.first);
+        print_field(r.step.second);
+        print_field(r.step.third);
+        io::write_all(STDOUT_FILENO, b"\n");
+        p = r.next;
+    }
+}
+
+// What the writer answers.
+fn print_written(w: script::Written) {
+    io::write_all(STDOUT_FILENO, b"written");
+    print_field(w.refusal);
+    io::write_all(STDOUT_FILENO, b" ");
+    io::print_decimal(STDOUT_FILENO, w.length as u64);
+    io::write_all(STDOUT_FILENO, b"\n");
+}
+
+// Writes into the buffer and prints the answer and the bytes after it.
+fn try_writer(c: Config, rows: &[u32], out: &mut [u8]) {
+    print_written(writer::write(c, rows, out));
+    print_bytes(out);
+}
+
+// The example of document 01.
+fn show_example(c: Config) {
+    let mut out = [0u8; 189];
+    try_writer(c, &EXAMPLE, &mut out);
+    print_field(script::verdict(&out));
+    io::write_all(STDOUT_FILENO, b"\n");
+    print_steps(&out);
+}
+
+// The writer at its edges: a buffer longer than the script, as long, and one byte short; then what is refused first.
+fn show_edges(c: Config) {
+    let none = [0u32; 0];
+    let mut long = [170u8; 39];
+    try_writer(c, &none, &mut long);
+    let mut fitting = [170u8; 29];
+    try_writer(c, &none, &mut fitting);
+    let mut short = [170u8; 28];
+    try_writer(c, &none, &mut short);
+    try_writer(c, &TWO_WRONG, &mut short);
+    let mut bad = c;
+    bad.servers = 5;
+    try_writer(bad, &TWO_WRONG, &mut short);
+}
+
+fn main() {
+    let count = os::arg_count();
+    let mut i = 1;
+    while i < count {
+        judge(i);
+        i += 1;
+    }
+    let c = Config {
+        servers: 2,
+        clients: 1,
+        addresses: 1,
+        skew: 0,
+        silence: 5,
+        mclt: 4,
+        hold: 10,
+    };
+    show_example(c);
+    show_edges(c);
+}

@@ -1,0 +1,9 @@
+pub mod Laws
+pub mod Walk
+pub mod Tests
+pub mod Fours
+pub mod Canonical
+pub mod Records
+pub mod Rows
+pub mod Round
+pub mod Refusals

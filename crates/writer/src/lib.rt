@@ -1,0 +1,157 @@
+// A script written into a lent buffer. Steps are rows of four numbers: a kind and three fields.
+use ranges::config_in_range;
+use script::Written;
+use script::field_count;
+use script::step_refusal;
+use types::Config;
+use types::Step;
+use wire::put_byte;
+use wire::put_number;
+ghost use mathlib.Core.Path.{_≡_};
+ghost use mathlib.Core.List.{_∷_};
+ghost use Prim.Native.Nat.{_+_, _*_, _≤_};
+ghost use lib.ListN.{length};
+ghost use Rattle.wire.specs.Numbers.{bytesOf, over};
+ghost use Rattle.script.specs.Layout.{stepRefusal, headerOf, recordOf, recordsOf};
+ghost use Rattle.script.specs.Writing.{rowAt, stepsIn, stepsRefusal, written, buffer};
+
+// Row n of l.
+fn row_at(l: &[u32], n: usize) -> Step
+    requires { ⌜ 4 * n + 4 ≤ length (now l) ⌝ }
+    ensures { λ s. ⌜ s ≡ rowAt (now (l .entry)) n ⌝ }
+{
+    let i = 4 * n;
+    Step {
+        kind: l[i],
+        first: l[i + 1],
+        second: l[i + 2],
+        third: l[i + 3],
+    }
+}
+
+// The first refusal among the steps, 0 if none.
+fn steps_refusal(l: &[u32]) -> u32
+    ensures { λ r. ⌜ r ≡ stepsRefusal (stepsIn (now (l .entry))) ⌝ }
+{
+    let count = l.len() / 4;
+    let mut n = 0;
+    while n < count {
+        let s = row_at(l, n);
+        let refusal = step_refusal(s);
+        if refusal != 0 {
+            return refusal;
+        }
+        n += 1;
+    }
+    0
+}
+
+// How many bytes the records of the steps have.
+fn records_length(l: &[u32]) -> usize
+    ensures { λ r. ⌜ r ≡ length (recordsOf (stepsIn (now (l .entry)))) ⌝ }
+{
+    let count = l.len() / 4;
+    let mut sum = 0;
+    let mut n = 0;
+    while n < count {
+        let s = row_at(l, n);
+        sum += (2 + 4 * field_count(s.kind)) as usize;
+        n += 1;
+    }
+    sum
+}
+
+// The version byte and the seven numbers.
+fn put_header(out: &mut [u8], c: Config)
+    requires { ⌜ 29 ≤ length (now out) ⌝ }
+    ensures { λ _. ⌜ now (out .exit) ≡ over (now (out .entry)) 0 (headerOf c) ⌝ }
+{
+    put_byte(out, 0, 1);
+    put_number(out, 1, c.servers);
+    put_number(out, 5, c.clients);
+    put_number(out, 9, c.addresses);
+    put_number(out, 13, c.skew);
+    put_number(out, 17, c.silence);
+    put_number(out, 21, c.mclt);
+    put_number(out, 25, c.hold);
+}
+
+// The length byte, the kind byte and the first field, which each kind has.
+fn put_first(out: &mut [u8], at: usize, size: u8, s: Step)
+    requires { ⌜ (s .kind ≤ 10) × (at + 6 ≤ length (now out)) ⌝ }
+    ensures { λ _. ⌜ now (out .exit) ≡ over (now (out .entry)) at (size ∷ s .kind ∷ bytesOf (s .first)) ⌝ }
+{
+    put_byte(out, at, size);
+    put_byte(out, at + 1, s.kind as u8);
+    put_number(out, at + 2, s.first);
+}
+
+// The record of a step that is not refused, and the place behind it.
+fn put_record(out: &mut [u8], at: usize, s: Step) -> usize
+    requires { ⌜ (stepRefusal s ≡ 0) × (at + length (recordOf s) ≤ length (now out)) ⌝ }
+    ensures { λ r. ⌜ r ≡ at + length (recordOf s) ⌝ }
+    ensures { λ _. ⌜ now (out .exit) ≡ over (now (out .entry)) at (recordOf s) ⌝ }
+{
+    let n = field_count(s.kind);
+    put_first(out, at, (1 + 4 * n) as u8, s);
+    if n == 1 {
+        return at + 6;
+    }
+    put_number(out, at + 6, s.second);
+    if n == 2 {
+        return at + 10;
+    }
+    put_number(out, at + 10, s.third);
+    at + 14
+}
+
+// The records of the steps, from place 29 on.
+fn put_records(out: &mut [u8], l: &[u32])
+    requires { ⌜ (stepsRefusal (stepsIn (now l)) ≡ 0) × (29 + length (recordsOf (stepsIn (now l))) ≤ length (now out)) ⌝ }
+    ensures { λ _. ⌜ now (out .exit) ≡ over (now (out .entry)) 29 (recordsOf (stepsIn (now (l .entry)))) ⌝ }
+{
+    let count = l.len() / 4;
+    let mut at = 29;
+    let mut n = 0;
+    while n < count {
+        let s = row_at(l, n);
+        at = put_record(out, at, s);
+        n += 1;
+    }
+}
+
+fn refused(n: u32) -> Written
+    ensures { λ w. ⌜ w ≡ record { refusal = n; length = 0 } ⌝ }
+{
+    Written {
+        refusal: n,
+        length: 0,
+    }
+}
+
+// Writes the script of c and the steps in l, and says how long it is; or a refusal, which leaves the buffer unchanged.
+pub fn write(c: Config, l: &[u32], out: &mut [u8]) -> Written
+    ensures { λ w. ⌜ w ≡ written c (stepsIn (now (l .entry))) (length (now (out .entry))) ⌝ }
+    ensures { λ _. ⌜ now (out .exit) ≡ buffer c (stepsIn (now (l .entry))) (now (out .entry)) ⌝ }
+{
+    if !config_in_range(c) {
+        return refused(2);
+    }
+    let bad = steps_refusal(l);
+    if bad != 0 {
+        return refused(bad);
+    }
+    let size = 29 + records_length(l);
+    if 65536 < size {
+        return refused(1);
+    }
+    if out.len() < size {
+        return refused(1);
+    }
+    put_header(out, c);
+    put_records(out, l);
+    Written {
+        refusal: 0,
+        length: size,
+    }
+}
