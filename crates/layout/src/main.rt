@@ -1,5 +1,6 @@
-// Scripts at the edges of the layout. First the verdict on each stored script that an argument names; then the example of
-// document 01, written from its steps and read back; then what the writer answers at its own edges, and the buffer after it.
+// Scripts at the edges of the layout. First the verdict on each stored script that an argument names (`tests/layout_data.py`
+// makes them); then the example of document 01, written from its steps and read back; then what the writer answers at its own
+// edges, and the buffer after it.
 use libc::STDOUT_FILENO;
 use types::Config;
 ghost use mathlib.Core.Path.{_≡_};
@@ -144,8 +145,8 @@ fn show_example(c: Config) {
     print_steps(&out);
 }
 
-// The writer at its edges: a buffer longer than the script, as long, and one byte short; then what is refused first.
-fn show_edges(c: Config) {
+// A buffer longer than the script, as long, and one byte short, with no step and with the example.
+fn show_room(c: Config) {
     let none = [0u32; 0];
     let mut long = [170u8; 39];
     try_writer(c, &none, &mut long);
@@ -153,10 +154,30 @@ fn show_edges(c: Config) {
     try_writer(c, &none, &mut fitting);
     let mut short = [170u8; 28];
     try_writer(c, &none, &mut short);
-    try_writer(c, &TWO_WRONG, &mut short);
+    let mut shorter = [170u8; 188];
+    try_writer(c, &EXAMPLE, &mut shorter);
+}
+
+// What is refused first, and a negative e.
+fn show_order(c: Config) {
+    let mut out = [170u8; 43];
+    try_writer(c, &TWO_WRONG, &mut out);
+    let unknown = [11, 0, 0, 0];
+    try_writer(c, &unknown, &mut out);
     let mut bad = c;
     bad.servers = 5;
-    try_writer(bad, &TWO_WRONG, &mut short);
+    try_writer(bad, &TWO_WRONG, &mut out);
+    let e = wire::in_complement(-3);
+    let back = [1, 5, 0, e];
+    try_writer(c, &back, &mut out);
+}
+
+// The most records that fit into 65,536 bytes, and one more.
+fn show_longest(c: Config) {
+    let rows = [2u32; 43672];
+    let mut out = [0u8; 70000];
+    print_written(writer::write(c, &rows[..43668], &mut out));
+    print_written(writer::write(c, &rows, &mut out));
 }
 
 fn main() {
@@ -176,5 +197,7 @@ fn main() {
         hold: 10,
     };
     show_example(c);
-    show_edges(c);
+    show_room(c);
+    show_order(c);
+    show_longest(c);
 }

@@ -108,7 +108,7 @@ pub header-length : (c : Config) → length (headerOf c) ≡ 29
 unfolding headerOf
 header-length c = refl
 
-script-length : (c : Config) (rest : List ℕ) → length (headerOf c ++ rest) ≡ 29 + length rest
+pub script-length : (c : Config) (rest : List ℕ) → length (headerOf c ++ rest) ≡ 29 + length rest
 script-length c rest = rw (length-append, header-length)
 
 module _ (c : Config) (rest : List ℕ) (t : T (configInRange c)) where

@@ -6,7 +6,7 @@ use Prim.Native.Nat.{ℕ, _+_, _≤_, _<_}
 use native.Mathlib.Omega.{arith}
 use borrow.Author.Tests.{ne-eqb, le-leb, lt-leb}
 use lib.Dec.{leb}
-use lib.ListN.{length, length-append}
+use lib.ListN.{length}
 use Rattle.types.specs.declared.Config.{Config}
 use Rattle.types.specs.declared.Step.{Step}
 use Rattle.rules.specs.Conditions.{_and_, unless}
@@ -17,11 +17,8 @@ use Rattle.script.specs.declared.Written.{Written}
 use Rattle.script.specs.Layout.{headerOf, recordsOf, scriptOf}
 use Rattle.script.specs.Reading.{longest}
 use Rattle.script.specs.Writing.{stepsRefusal, writeRefusal, written, buffer}
-use Rattle.script.proofs.Round.{header-length}
+use Rattle.script.proofs.Round.{header-length, script-length}
 use Rattle.writer.proofs.Laws.{or-first}
-
-script-length : (c : Config) (ss : List Step) → length (scriptOf c ss) ≡ 29 + length (recordsOf ss)
-script-length c ss = length-append (headerOf c) (recordsOf ss) ∙ ap (λ (n : ℕ). n + length (recordsOf ss)) (header-length c)
 
 module _ (c : Config) (ss : List Step) (l : List ℕ) where
   -- a refusal is answered with length 0, and leaves the buffer
@@ -50,7 +47,7 @@ module _ (c : Config) (ss : List Step) (l : List ℕ) where
       by-length = rw (ok, kept)
 
       whole : length (scriptOf c ss) ≡ 29 + n
-      whole = script-length c ss ∙ ap (λ (k : ℕ). 29 + k) (sym size)
+      whole = script-length c (recordsOf ss) ∙ ap (λ (k : ℕ). 29 + k) (sym size)
 
       pub too-long : 65536 < 29 + n → {w : Written} → w ≡ record { refusal = 1; length = 0 } → (w ≡ written c ss (length l)) × (l ≡ buffer c ss l)
       unfolding unless _and_

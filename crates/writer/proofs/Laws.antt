@@ -20,9 +20,10 @@ use Rattle.script.specs.Reading.{orElse}
 use Rattle.script.specs.Writing.{rowAt, rows, stepsRefusal}
 use Rattle.script.proofs.Laws.{unknown-has-no-fields}
 use Rattle.script.proofs.Canonical.{few-fields}
+use Rattle.script.proofs.Tests.{none-met}
 use Rattle.script.proofs.Records.{record-length}
 
--- a record has one to three fields
+-- a record has at most three fields, and one that is not refused has one
 
 pub record-high : (s : Step) → length (recordOf s) ≤ 14
 record-high s = omega (arith, record-length s, few-fields (s .kind))
@@ -84,10 +85,6 @@ or-assoc zero b c = refl
 or-assoc (suc a) b c =
     let h : suc a ≡ 0 → ⊥ = λ e. omega arith in
     or-first (suc a) (orElse b c) h ∙ sym (ap (λ (x : ℕ). orElse x c) (or-first (suc a) b h) ∙ or-first (suc a) c h)
-
-or-zero : (a b : ℕ) → orElse a b ≡ 0 → (a ≡ 0) × (b ≡ 0)
-or-zero zero b e = (refl, e)
-or-zero (suc a) b e = absurd (omega (arith, or-first (suc a) b (λ z. omega arith)))
 
 or-end : (a : ℕ) → orElse a 0 ≡ a
 or-end zero = refl
@@ -186,8 +183,8 @@ module _ (l : List ℕ) (k : ℕ) where
     -- where none is refused, this one is not
     pub kept-at : stepsRefusal (rows l m) ≡ 0 → stepRefusal (rowAt l k) ≡ 0
     kept-at e =
-        let here = or-zero (stepsRefusal (rows l (k + 1))) (stepsRefusal rest) (sym split-refusal ∙ e) .0 in
-        or-zero (stepsRefusal (rows l k)) (stepRefusal (rowAt l k)) (sym next-refusal ∙ here) .1
+        let here = none-met (stepsRefusal (rows l (k + 1))) (stepsRefusal rest) (sym split-refusal ∙ e) .0 in
+        none-met (stepsRefusal (rows l k)) (stepRefusal (rowAt l k)) (sym next-refusal ∙ here) .1
 
     -- its record lies within the records of all
     pub room-at : length (recordsOf (rows l k)) + length (recordOf (rowAt l k)) ≤ length (recordsOf (rows l m))

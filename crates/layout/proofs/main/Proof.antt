@@ -30,8 +30,14 @@ loop-again c = search needs
 show-example-requires : tie.Need-show-example-requires Inv-loop μ-loop
 show-example-requires c κs = search needs
 
-show-edges-requires : tie.Need-show-edges-requires Inv-loop μ-loop
-show-edges-requires c κs = search needs
+show-room-requires : tie.Need-show-room-requires Inv-loop μ-loop
+show-room-requires c κs = search needs
+
+show-order-requires : tie.Need-show-order-requires Inv-loop μ-loop
+show-order-requires c κs = search needs
+
+show-longest-requires : tie.Need-show-longest-requires Inv-loop μ-loop
+show-longest-requires c κs = search needs
 
 returns : tie.Need-returns Inv-loop μ-loop
 returns c = search needs
@@ -49,5 +55,7 @@ main-spec =
     loop-less
     loop-again
     show-example-requires
-    show-edges-requires
+    show-room-requires
+    show-order-requires
+    show-longest-requires
     returns)

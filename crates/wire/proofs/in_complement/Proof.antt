@@ -7,7 +7,6 @@ use Rattle.arith.proofs.Signs.{tested, below-zero, small}
 use Rattle.wire.proofs.Numbers.{complement-ahead, complement-back}
 use Rattle.wire.proofs.in_complement.Statement.{statement}
 use Rattle.wire.proofs.in_complement.Tie as tie
-use Rattle.wire.proofs.in_complement.Lts as lts
 
 magnitude-requires : tie.Need-magnitude-requires
 magnitude-requires c κs = search needs
