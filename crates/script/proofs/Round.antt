@@ -5,14 +5,14 @@ use Prim.Native.Nat.{ℕ, zero, suc, _+_, _*_, _/_, _<_, _≤_}
 use native.Mathlib.Omega.{arith}
 use native.Mathlib.Decide.{decLt}
 use borrow.Author.Tests.{le-leb, lt-leb}
-use lib.Dec.{T, leb→le, eqb→eq}
+use lib.Dec.{T, eqb, leb→le, eqb→eq}
 use lib.ListN.{length, getD, take, drop, length-append, length-drop, drop-of-length-le, take-append-drop}
 use lib.Seq.{drop-drop, drop-at, take-at, length-take-le}
 use Rattle.types.specs.declared.Config.{Config}
 use Rattle.types.specs.declared.Step.{Step}
 use Rattle.rules.specs.Conditions.{_and_, within, unless}
 use Rattle.rules.specs.Ranges.{configInRange}
-use Rattle.rules.proofs.Laws.{true-of, and-l, and-r, within-low, within-high, unless-ok}
+use Rattle.rules.proofs.Laws.{true-of, and-l, and-r, within-low, within-high, unless-ok, cond-case}
 use Rattle.wire.specs.Numbers.{over}
 use Rattle.wire.proofs.Numbers.{number-front}
 use Rattle.script.specs.declared.Header.{Header}
@@ -190,6 +190,12 @@ module _ (c : Config) (ss : List Step) (n : ℕ) where
       let o = none-met (stepsRefusal ss) _ (a .1) in
       let t = (unless-ok _ 1 0 (omega arith) (o .1)) .0 in
       (a .0, o .0, leb→le (length (scriptOf c ss)) longest (and-l _ _ t), leb→le (length (scriptOf c ss)) n (and-r _ _ t))
+
+  -- what the writer says that it wrote lies within the buffer
+  pub written-fits : (written c ss n) .length ≤ n
+  unfolding written
+  written-fits =
+      cond-case (λ (k : ℕ). k ≤ n) (eqb (writeRefusal c ss n) 0) _ _ (λ t. (not-refused (eqb→eq _ _ t)) .3) (λ t. omega arith)
 
   tests-passed : T (configInRange c) → stepsRefusal ss ≡ 0 → length (scriptOf c ss) ≤ longest → length (scriptOf c ss) ≤ n
       → writeRefusal c ss n ≡ 0
