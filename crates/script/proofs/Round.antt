@@ -182,7 +182,7 @@ pub record Reads (s : List ℕ) (c : Config) (ss : List Step) : Type 0 where
 
 module _ (c : Config) (ss : List Step) (n : ℕ) where
   -- the tests of the writer
-  not-refused : writeRefusal c ss n ≡ 0
+  pub not-refused : writeRefusal c ss n ≡ 0
       → T (configInRange c) × (stepsRefusal ss ≡ 0) × (length (scriptOf c ss) ≤ longest) × (length (scriptOf c ss) ≤ n)
   unfolding writeRefusal
   not-refused e =

@@ -6,6 +6,7 @@ use ranges::is_known_kind;
 use types::Config;
 use types::Step;
 use wire::number_at;
+use wire::wide;
 ghost use mathlib.Core.Path.{_≡_};
 ghost use Prim.Native.Nat.{_+_, _*_, _≤_};
 ghost use lib.ListN.{length, getD};
@@ -129,12 +130,6 @@ pub fn step_refusal(s: Step) -> u32
         return 5;
     }
     0
-}
-
-fn wide(x: u8) -> u32
-    ensures { λ r. ⌜ (r ≡ x) × (r ≤ 255) ⌝ }
-{
-    x as u32
 }
 
 // Field i of a record of n fields.

@@ -6,7 +6,8 @@ ghost use Prim.Native.Nat.{_+_, _*_, _≤_};
 ghost use lib.ListN.{length};
 ghost use Rattle.wire.specs.Numbers.{numberAt, bytesOf, complement, over};
 
-fn wide(x: u8) -> u32
+// A byte as a number.
+pub fn wide(x: u8) -> u32
     ensures { λ r. ⌜ (r ≡ x) × (r ≤ 255) ⌝ }
 {
     x as u32

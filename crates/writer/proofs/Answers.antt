@@ -1,11 +1,11 @@
--- The writer's answer and buffer, by its tests in their order.
-use mathlib.Core.Path.{_≡_, refl, sym, ap, _∙_}
-use mathlib.Core.Bool.{true, false}
+-- The writer's refusal, and its answer and buffer by that refusal.
+use mathlib.Core.Path.{_≡_, refl, sym, _∙_}
+use mathlib.Core.Bool.{Bool, true, false, cond}
 use mathlib.Core.List.{List}
 use Prim.Native.Nat.{ℕ, _+_, _≤_, _<_}
 use native.Mathlib.Omega.{arith}
-use borrow.Author.Tests.{ne-eqb, le-leb, lt-leb}
-use lib.Dec.{leb}
+use borrow.Author.Tests.{ne-eqb}
+use lib.Dec.{leb, eqb}
 use lib.ListN.{length}
 use Rattle.types.specs.declared.Config.{Config}
 use Rattle.types.specs.declared.Step.{Step}
@@ -14,56 +14,46 @@ use Rattle.rules.specs.Ranges.{configInRange}
 use Rattle.wire.specs.Numbers.{over}
 use Rattle.wire.proofs.Over.{over-then}
 use Rattle.script.specs.declared.Written.{Written}
-use Rattle.script.specs.Layout.{headerOf, recordsOf, scriptOf}
-use Rattle.script.specs.Reading.{longest}
+use Rattle.script.specs.Layout.{headerOf, recordsOf}
+use Rattle.script.specs.Reading.{longest, orElse}
 use Rattle.script.specs.Writing.{stepsRefusal, writeRefusal, written, buffer}
-use Rattle.script.proofs.Round.{header-length, script-length}
-use Rattle.writer.proofs.Laws.{or-first}
+use Rattle.script.proofs.Round.{header-length, script-length, not-refused}
 
-module _ (c : Config) (ss : List Step) (l : List ℕ) where
-  -- a refusal is answered with length 0, and leaves the buffer
-  refused : (n : ℕ) → (n ≡ 0 → ⊥) → writeRefusal c ss (length l) ≡ n → {w : Written} → w ≡ record { refusal = n; length = 0 }
-      → (w ≡ written c ss (length l)) × (l ≡ buffer c ss l)
-  unfolding written buffer
-  refused n z e p = rw (e, ne-eqb n 0 z) (p, refl)
+-- the configuration comes first
+config-first : (b : Bool) (later : ℕ) → orElse (unless b 2 0) later ≡ unless b 2 later
+unfolding unless
+config-first true later = refl
+config-first false later = refl
 
-  -- refusal 2 comes first
-  pub config-refused : configInRange c ≡ false → {w : Written} → w ≡ record { refusal = 2; length = 0 }
-      → (w ≡ written c ss (length l)) × (l ≡ buffer c ss l)
-  unfolding writeRefusal unless
-  config-refused e p = refused 2 (λ z. omega arith) (rw e) p
+module _ (c : Config) (ss : List Step) (room : ℕ) {size : ℕ} (whole : size ≡ 29 + length (recordsOf ss)) where
+  -- the tests in their order
+  module _ {t u : Bool} (p : t ≡ configInRange c) (q : u ≡ (leb size longest and leb size room)) where
+    pub in-order : {x y z later n : ℕ} → x ≡ unless t 2 0 → y ≡ stepsRefusal ss → z ≡ unless u 1 0 → later ≡ orElse y z → n ≡ orElse x later
+        → n ≡ writeRefusal c ss room
+    unfolding writeRefusal
+    in-order ex ey ez el en = en ∙ rw (el, ex, ey, ez, p, q, script-length, ← whole) (config-first (configInRange c) _)
 
-  module _ (ok : configInRange c ≡ true) where
-    -- then the refusal of the steps
-    pub step-refused : (n : ℕ) → n ≡ stepsRefusal ss → (n ≡ 0 → ⊥) → {w : Written} → w ≡ record { refusal = n; length = 0 }
-        → (w ≡ written c ss (length l)) × (l ≡ buffer c ss l)
-    unfolding writeRefusal unless
-    step-refused n e z p = refused n z (rw (ok, sym e) (or-first n _ z)) p
+  pub answered : {n : ℕ} → n ≡ writeRefusal c ss room → {w : Written} → w ≡ record { refusal = n; length = cond (eqb n 0) size 0 }
+      → w ≡ written c ss room
+  unfolding written
+  answered e p = rw (← e, script-length, ← whole) p
 
-    module _ (kept : stepsRefusal ss ≡ 0) (n : ℕ) (size : n ≡ length (recordsOf ss)) where
-      -- then refusal 1, of the length
-      by-length : writeRefusal c ss (length l) ≡ unless (leb (length (scriptOf c ss)) longest and leb (length (scriptOf c ss)) (length l)) 1 0
-      unfolding writeRefusal unless
-      by-length = rw (ok, kept)
+module _ (c : Config) (ss : List Step) (l : List ℕ) {n : ℕ} (e : n ≡ writeRefusal c ss (length l)) where
+  -- a refusal leaves the buffer
+  pub refused : 0 < n → l ≡ buffer c ss l
+  unfolding buffer
+  refused h = rw (← e, ne-eqb n 0 (λ z. omega arith))
 
-      whole : length (scriptOf c ss) ≡ 29 + n
-      whole = script-length c (recordsOf ss) ∙ ap (λ (k : ℕ). 29 + k) (sym size)
+  module _ (z : n ≡ 0) where
+    -- without one, the steps can be put and have room
+    pub has-room : (stepsRefusal ss ≡ 0) × (29 + length (recordsOf ss) ≤ length l)
+    has-room =
+        let a = not-refused c ss (length l) (sym e ∙ z) in
+        (a .1, omega (arith, a .3, script-length c (recordsOf ss)))
 
-      pub too-long : 65536 < 29 + n → {w : Written} → w ≡ record { refusal = 1; length = 0 } → (w ≡ written c ss (length l)) × (l ≡ buffer c ss l)
-      unfolding unless _and_
-      too-long h p = refused 1 (λ z. omega arith) (by-length ∙ rw (whole, lt-leb (29 + n) 65536 h)) p
-
-      pub no-room : 29 + n ≤ 65536 → length l < 29 + n → {w : Written} → w ≡ record { refusal = 1; length = 0 }
-          → (w ≡ written c ss (length l)) × (l ≡ buffer c ss l)
-      unfolding unless _and_
-      no-room h k p = refused 1 (λ z. omega arith) (by-length ∙ rw (whole, le-leb (29 + n) 65536 h, lt-leb (29 + n) (length l) k)) p
-
-      -- else the script is written, the records right behind the header
-      pub all-written : 29 + n ≤ 65536 → 29 + n ≤ length l → {l₁ l₂ : List ℕ} → l₁ ≡ over l 0 (headerOf c) → l₂ ≡ over l₁ 29 (recordsOf ss)
-          → (record { refusal = 0; length = 29 + n } ≡ written c ss (length l)) × (l₂ ≡ buffer c ss l)
-      unfolding written buffer unless _and_
-      all-written h k p q =
-          let e : writeRefusal c ss (length l) ≡ 0 = by-length ∙ rw (whole, le-leb (29 + n) 65536 h, le-leb (29 + n) (length l) k) in
-          let at : 29 ≡ 0 + length (headerOf c) = omega (arith, header-length c) in
-          let put = over-then l (headerOf c) (recordsOf ss) 0 29 (omega arith) at p q in
-          rw e (ap (λ (m : ℕ). record { refusal = 0; length = m }) (sym whole), put)
+    -- and the buffer gets the script: the records right behind the header
+    pub all-put : {l₁ l₂ : List ℕ} → l₁ ≡ over l 0 (headerOf c) → l₂ ≡ over l₁ 29 (recordsOf ss) → l₂ ≡ buffer c ss l
+    unfolding buffer
+    all-put p q =
+        let at : 29 ≡ 0 + length (headerOf c) = omega (arith, header-length c) in
+        rw (← e, z) (over-then l (headerOf c) (recordsOf ss) 0 29 (omega (arith, has-room .1)) at p q)

@@ -76,7 +76,7 @@ module _ (s : Step) (n : ℕ) (e : n ≡ fieldsOf (s .kind)) where
 
 -- a refusal, or else another
 
-pub or-first : (a b : ℕ) → (a ≡ 0 → ⊥) → orElse a b ≡ a
+or-first : (a b : ℕ) → (a ≡ 0 → ⊥) → orElse a b ≡ a
 or-first zero b h = absurd (h refl)
 or-first (suc a) b h = rw (ne-eqb (suc a) 0 h)
 

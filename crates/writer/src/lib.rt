@@ -1,4 +1,5 @@
 // A script written into a lent buffer. Steps are rows of four numbers: a kind and three fields.
+use arith::both;
 use ranges::config_in_range;
 use script::Written;
 use script::field_count;
@@ -8,12 +9,16 @@ use types::Step;
 use wire::put_byte;
 use wire::put_number;
 ghost use mathlib.Core.Path.{_≡_};
+ghost use mathlib.Core.Bool.{cond};
 ghost use mathlib.Core.List.{_∷_};
 ghost use Prim.Native.Nat.{_+_, _*_, _≤_};
+ghost use lib.Dec.{eqb};
 ghost use lib.ListN.{length};
+ghost use Rattle.rules.specs.Conditions.{unless};
 ghost use Rattle.wire.specs.Numbers.{bytesOf, over};
 ghost use Rattle.script.specs.Layout.{stepRefusal, headerOf, recordOf, recordsOf};
-ghost use Rattle.script.specs.Writing.{rowAt, stepsIn, stepsRefusal, written, buffer};
+ghost use Rattle.script.specs.Reading.{orElse};
+ghost use Rattle.script.specs.Writing.{rowAt, stepsIn, stepsRefusal, writeRefusal, written, buffer};
 
 // Row n of l.
 fn row_at(l: &[u32], n: usize) -> Step
@@ -59,6 +64,43 @@ fn records_length(l: &[u32]) -> usize
         n += 1;
     }
     sum
+}
+
+// The number of a refusal, 0 where its test holds.
+fn refusal_unless(test: bool, n: u32) -> u32
+    ensures { λ r. ⌜ r ≡ unless test n 0 ⌝ }
+{
+    if test { 0 } else { n }
+}
+
+// n, or m where n is no refusal.
+fn or_else(n: u32, m: u32) -> u32
+    ensures { λ r. ⌜ r ≡ orElse n m ⌝ }
+{
+    if n == 0 { m } else { n }
+}
+
+// The first refusal in the writer's order: of the configuration, of the steps, of the length.
+fn write_refusal(c: Config, l: &[u32], size: usize, room: usize) -> u32
+    requires { ⌜ size ≡ 29 + length (recordsOf (stepsIn (now l))) ⌝ }
+    ensures { λ n. ⌜ n ≡ writeRefusal c (stepsIn (now (l .entry))) room ⌝ }
+{
+    let of_config = refusal_unless(config_in_range(c), 2);
+    let of_steps = steps_refusal(l);
+    let of_length = refusal_unless(both(size <= 65536, size <= room), 1);
+    let later = or_else(of_steps, of_length);
+    or_else(of_config, later)
+}
+
+// The answer to a script of that size with refusal n: what is refused has length 0.
+fn answer(n: u32, size: usize) -> Written
+    ensures { λ w. ⌜ w ≡ record { refusal = n; length = cond (eqb n 0) size 0 } ⌝ }
+{
+    let length = if n == 0 { size } else { 0 };
+    Written {
+        refusal: n,
+        length: length,
+    }
 }
 
 // The version byte and the seven numbers.
@@ -120,38 +162,18 @@ fn put_records(out: &mut [u8], l: &[u32])
     }
 }
 
-fn refused(n: u32) -> Written
-    ensures { λ w. ⌜ w ≡ record { refusal = n; length = 0 } ⌝ }
-{
-    Written {
-        refusal: n,
-        length: 0,
-    }
-}
-
 // Writes the script of c and the steps in l, and says how long it is; or a refusal, which leaves the buffer unchanged.
 pub fn write(c: Config, l: &[u32], out: &mut [u8]) -> Written
     ensures { λ w. ⌜ w ≡ written c (stepsIn (now (l .entry))) (length (now (out .entry))) ⌝ }
     ensures { λ _. ⌜ now (out .exit) ≡ buffer c (stepsIn (now (l .entry))) (now (out .entry)) ⌝ }
 {
-    if !config_in_range(c) {
-        return refused(2);
-    }
-    let bad = steps_refusal(l);
-    if bad != 0 {
-        return refused(bad);
-    }
     let size = 29 + records_length(l);
-    if 65536 < size {
-        return refused(1);
-    }
-    if out.len() < size {
-        return refused(1);
+    let n = write_refusal(c, l, size, out.len());
+    let w = answer(n, size);
+    if 0 < n {
+        return w;
     }
     put_header(out, c);
     put_records(out, l);
-    Written {
-        refusal: 0,
-        length: size,
-    }
+    w
 }
