@@ -18,7 +18,6 @@ use clocks::is_in_touch;
 use clocks::move_on;
 use clocks::row_now;
 use delivery::deliver_step;
-use lending::closed;
 use ranges::config_in_range;
 use ranges::facade_in_range;
 use ranges::fields_in_range;
@@ -26,9 +25,6 @@ use types::Answer;
 use types::Client;
 use types::Config;
 use types::Facade;
-use types::Reservation;
-use types::Reserved;
-use types::Server;
 use types::State;
 use types::Step;
 ghost use mathlib.Core.Path.{_≡_};
@@ -46,21 +42,7 @@ ghost use Rattle.rules.specs.Steps.{fresh as freshFacade, start, answerTo, step
 fn fresh_facade(c: Config) -> Facade
     ensures { λ r. ⌜ r ≡ freshFacade c ⌝ }
 {
-    let free = Reservation {
-        state: Reserved::Free,
-    };
-    let write = closed();
-    let s = Server {
-        alive: true,
-        changed: 0,
-        returned: 0,
-        believed: [true; 4],
-        leads: [false; 32],
-        reserved: [free; 32],
-        lent: [0; 32],
-        potlease: [0; 32],
-        writes: [write; 32],
-    };
+    let s = server::cleared(true, 0, 0, [0; 32]);
     let idle = Client { state: State::Idle };
     let empty = outbox::empty();
     Facade {
@@ -228,8 +210,8 @@ fn cleanup_step(f: Facade, k: u32) -> Answer
     unless_full(f, server_acts(f, k, x))
 }
 
-// The kind number decides the step.
-fn by_kind(f: Facade, s: Step) -> Answer
+// A step of a facade that is known to be in range, as one is that a step gave back: the kind number decides it.
+pub fn step_in_range(f: Facade, s: Step) -> Answer
     requires { ⌜ T (inRange f) ⌝ }
     ensures { λ r. ⌜ r ≡ stepOf f s ⌝ }
 {
@@ -254,7 +236,7 @@ pub fn step(f: Facade, s: Step) -> Answer
     ensures { λ r. ⌜ r ≡ stepOf f s ⌝ }
 {
     if facade_in_range(f) {
-        return by_kind(f, s);
+        return step_in_range(f, s);
     }
     refused(f, 2)
 }

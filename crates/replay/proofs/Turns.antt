@@ -3,11 +3,15 @@ use mathlib.Core.Path.{_≡_}
 use mathlib.Core.List.{List, _++_}
 use Prim.Native.Nat.{ℕ, _+_, _≤_, _<_}
 use native.Mathlib.Omega.{arith}
+use lib.Dec.{T}
 use lib.ListN.{length}
 use Rattle.types.specs.declared.Config.{Config}
 use Rattle.types.specs.declared.Facade.{Facade}
 use Rattle.types.specs.declared.Answer.{Answer}
+use Rattle.types.specs.declared.Step.{Step}
+use Rattle.rules.specs.Ranges.{configInRange}
 use Rattle.rules.specs.Steps.{fresh, start, step, heldClients}
+use Rattle.rules.proofs.Ranges.{Sound, fresh-sound, step-sound}
 use Rattle.script.specs.Reading.{recordAt}
 use Rattle.script.specs.declared.Record.{Record}
 use Rattle.report.specs.Lines.{recordLine, heldLine}
@@ -15,6 +19,15 @@ use Rattle.report.proofs.Laws.{Put, record-line-short}
 use Rattle.replay.specs.Output.{answerLine, linesFrom}
 use Rattle.replay.proofs.Owed.{Owed, owed-less, owed-none}
 use Rattle.replay.proofs.Lines.{answer-line-short, last-at-the-end, stops-at, goes-past}
+
+-- the facade that a configuration in range starts with is in range, and so is one that a step gave back
+
+pub starts-sound : (c : Config) (x : Answer) → T (configInRange c) → x ≡ start c → Sound (x .facade)
+unfolding start
+starts-sound c x h e = rw e (fresh-sound c h)
+
+pub stays-sound : (x : Answer) (f : Facade) (s : Step) → Sound f → x ≡ step f s → Sound (x .facade)
+stays-sound x f s h e = rw e (step-sound f s h)
 
 -- what is put from the answer to a configuration on is put from the fresh facade on
 pub from-fresh : (c : Config) (x : Answer) (l m s : List ℕ) (i r : ℕ) → x ≡ start c

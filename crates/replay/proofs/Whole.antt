@@ -7,11 +7,12 @@ use native.Mathlib.Omega.{arith}
 use lib.Dec.{T, eqb, leb, leb→le, eqb→eq}
 use lib.ListN.{length, length-append}
 use borrow.Author.Tests.{le-leb, lt-leb, eq-eqb, ne-eqb}
+use Rattle.rules.specs.Ranges.{configInRange}
 use Rattle.rules.specs.Steps.{fresh}
-use Rattle.rules.proofs.Laws.{and-l, cond-case, within-high}
+use Rattle.rules.proofs.Laws.{and-l, cond-case, unless-ok, within-high}
 use Rattle.wire.specs.Numbers.{over}
 use Rattle.wire.proofs.Over.{over-length}
-use Rattle.script.specs.Reading.{longest, isScript, headerIn}
+use Rattle.script.specs.Reading.{longest, isScript, configIn, headerIn}
 use Rattle.script.specs.declared.Header.{Header}
 use Rattle.report.specs.Lines.{recordLine, facadeLine}
 use Rattle.report.proofs.Laws.{Put, record-line-short, facade-line-short}
@@ -49,6 +50,16 @@ module _ (s : List ℕ) (h : Header) (e : h ≡ headerIn s) where
       (λ b z. within-high 29 longest (length s) (and-l _ _ b))
       (λ b z. absurd (omega arith))
       (rw e at t)
+
+  -- with a configuration in range
+  pub accepted-is-ranged : h .refusal ≡ 0 → T (configInRange (h .config))
+  unfolding headerIn
+  accepted-is-ranged t =
+      let ok = rw e at t in
+      rw e
+      (cond-case (λ (x : Header). x .refusal ≡ 0 → T (configInRange (x .config))) (isScript s) _ _
+      (λ b z. unless-ok (configInRange (configIn s)) 2 0 (omega arith) z .0)
+      (λ b z. absurd (omega arith)) ok)
 
 -- the output of any script fits
 output-fits : (s : List ℕ) → length (output s) ≤ mostOutput

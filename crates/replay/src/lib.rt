@@ -1,7 +1,7 @@
 // The run of a whole script: each record's step, and the lines that the rig prints, put into a lent buffer.
 use facade::fresh;
 use facade::held;
-use facade::step;
+use facade::step_in_range;
 use report::put_facade_line;
 use report::put_held_line;
 use report::put_record_line;
@@ -10,14 +10,16 @@ use script::record_at;
 use types::Config;
 ghost use mathlib.Core.Path.{_≡_};
 ghost use Prim.Native.Nat.{_+_, _≤_};
+ghost use lib.Dec.{T};
 ghost use lib.ListN.{length};
+ghost use Rattle.rules.specs.Ranges.{configInRange};
 ghost use Rattle.rules.specs.Steps.{fresh as freshFacade};
 ghost use Rattle.wire.specs.Numbers.{over};
 ghost use Rattle.replay.specs.Output.{linesFrom, outputLength, buffer};
 
 // The lines of the records, from place 29 on, and the last line; they are put from place `start` on.
 fn put_lines(s: &[u8], c: Config, out: &mut [u8], start: usize) -> usize
-    requires { ⌜ (length (now s) ≤ 65536) × (start ≤ 40) × (2097152 ≤ length (now out)) ⌝ }
+    requires { ⌜ T (configInRange c) × (length (now s) ≤ 65536) × (start ≤ 40) × (2097152 ≤ length (now out)) ⌝ }
     ensures { λ r. ⌜ r ≡ start + length (linesFrom (length (now (s .entry))) (freshFacade c) (now (s .entry)) 29 1) ⌝ }
     ensures { λ _. ⌜ now (out .exit) ≡ over (now (out .entry)) start (linesFrom (length (now (s .entry))) (freshFacade c) (now (s .entry)) 29 1) ⌝ }
 {
@@ -32,7 +34,7 @@ fn put_lines(s: &[u8], c: Config, out: &mut [u8], start: usize) -> usize
             at = put_record_line(out, at, k, 3, 0, f.time, f.waiting);
             return put_held_line(out, at, held(f));
         }
-        let x = step(f, r.step);
+        let x = step_in_range(f, r.step);
         let g = x.facade;
         at = put_record_line(out, at, k, x.refusal, x.outcome, g.time, g.waiting);
         f = g;

@@ -544,10 +544,10 @@ fresh-in-range c h = in-range (fresh c) (record {
     none w a _ = rep-ind (λ x. T (endInRange x)) w 0 0 a tt tt
 
 -- a facade in range, its message array at its length
-abbrev Sound : Facade → Type 0
+abbrev pub Sound : Facade → Type 0
 Sound f = T (inRange f) × (length (f .messages) ≡ 128)
 
-step-sound : (f : Facade) (s : Step) → Sound f → Sound ((step f s) .facade)
+pub step-sound : (f : Facade) (s : Step) → Sound f → Sound ((step f s) .facade)
 unfolding step answerTo
 step-sound f s v = let x : Action = action s in
     cond-case (λ (y : Answer). Sound (y .facade)) (eqb (refusal f x) 0) _ _
@@ -563,13 +563,13 @@ unfolding run
 run-sound f [] v = v
 run-sound f (s ∷ ss) v = run-sound ((step f s) .facade) ss (step-sound f s v)
 
-fresh-sound : (c : Config) (ss : List Step) → T (configInRange c) → Sound (run (fresh c) ss)
+pub fresh-sound : (c : Config) → T (configInRange c) → Sound (fresh c)
 unfolding fresh
-fresh-sound c ss h = run-sound (fresh c) ss (fresh-in-range c h, length-replicate 128 noMessage)
+fresh-sound c h = (fresh-in-range c h, length-replicate 128 noMessage)
 
 -- A list of steps that starts from a fresh facade comes to a facade in range.
 pub run-in-range : (c : Config) (ss : List Step) → T (configInRange c) → T (inRange (run (fresh c) ss))
-run-in-range c ss h = fresh-sound c ss h .0
+run-in-range c ss h = run-sound (fresh c) ss (fresh-sound c h) .0
 
 unless-kept : (b : Bool) (n below : ℕ) → T b → below ≢ 2 → unless b n below ≢ 2
 unfolding unless
@@ -594,7 +594,7 @@ unfolding step answerTo
 never-two c ss s h =
     let f : Facade = run (fresh c) ss in
     let x : Action = action s in
-    let v = fresh-sound c ss h in
+    let v = run-sound (fresh c) ss (fresh-sound c h) in
     cond-case (λ (y : Answer). y .refusal ≢ 2) (eqb (refusal f x) 0) _ _
     (λ e. omega (arith, good f x (v .1) (eqb→eq (refusal f x) 0 e) .accepted))
     (λ _. other f x (v .0))

@@ -66,22 +66,23 @@ noticed c k r s about says = answer (leadingWith c k r s (set (s .believed) abou
 abbrev pub keptRecords : Server → List ℕ
 keptRecords s = s .potlease
 
--- "its return reading is its clock, .. believed live is all; led, reservations, lent ends and writes are cleared"
+-- "believed live is all; led, reservations, lent ends and writes are cleared": so is a server that is fresh
+abbrev pub clearedServer : Bool → ℕ → ℕ → List ℕ → Server
+clearedServer alive changed returned records = record {
+  alive = alive;
+  changed = changed;
+  returned = returned;
+  believed = replicate 4 true;
+  leads = replicate 32 false;
+  reserved = replicate 32 noReservation;
+  lent = replicate 32 0;
+  potlease = records;
+  writes = replicate 32 closed;
+}
+
+-- "its return reading is its clock"
 unfoldable pub afterReturn : ℕ → Server → ServerAnswer
-afterReturn r s =
-    answer
-    (record {
-      alive = s .alive;
-      changed = s .changed;
-      returned = r;
-      believed = replicate 4 true;
-      leads = replicate 32 false;
-      reserved = replicate 32 noReservation;
-      lent = replicate 32 0;
-      potlease = keptRecords s;
-      writes = replicate 32 closed;
-    })
-    0 nothing
+afterReturn r s = answer (clearedServer (s .alive) (s .changed) r (keptRecords s)) 0 nothing
 
 -- Cleanup.
 

@@ -18,24 +18,14 @@ use Rattle.rules.specs.Clock.{notNegative, signed}
 use Rattle.rules.specs.Parts.{serverAt, stateAt, messageAt, offsetAt, noticeAt, clock, clientParty, parties, inState, noReservation, noClient, noMessage, withLife, withServer, withNotices, withClient, withClients, withTime, withNext}
 use Rattle.rules.specs.Ranges.{configInRange, inRange, endInRange, isServer, lastTime, lastInteraction, mostWaiting}
 use Rattle.rules.specs.Messages.{sendAll, without}
-use Rattle.rules.specs.Server.{closed, noticed, afterReturn, cleaned, serverReceives}
+use Rattle.rules.specs.Server.{noticed, clearedServer, afterReturn, cleaned, serverReceives}
 use Rattle.rules.specs.Client.{isOffered, isHolding, lapsed, discovers, requests, renews, clientReceives}
 
 -- Fresh: "time 0, clocks exact, all alive with c and return reading 0, everyone believed live, notice times 0,
 -- nothing led, reserved or open, ends and records 0, no messages, clients idle". All places are filled alike.
 
 abbrev pub freshServer : Server
-freshServer = record {
-  alive = true;
-  changed = 0;
-  returned = 0;
-  believed = replicate 4 true;
-  leads = replicate 32 false;
-  reserved = replicate 32 noReservation;
-  lent = replicate 32 0;
-  potlease = replicate 32 0;
-  writes = replicate 32 closed;
-}
+freshServer = clearedServer true 0 0 (replicate 32 0)
 
 unfoldable pub fresh : Config → Facade
 fresh c = record {

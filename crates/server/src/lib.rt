@@ -19,7 +19,7 @@ ghost use Prim.Native.Nat.{_≤_, _<_};
 ghost use lib.Dec.{T};
 ghost use Rattle.rules.specs.Ranges.{bodyInRange};
 ghost use Rattle.rules.specs.Messages.{nothing as nothingSent};
-ghost use Rattle.rules.specs.Server.{answer, noticed as afterNotice, afterReturn, freedIfOld, cleaned, serverHandles, serverReceives};
+ghost use Rattle.rules.specs.Server.{answer, noticed as afterNotice, clearedServer, afterReturn, freedIfOld, cleaned, serverHandles, serverReceives};
 ghost use Rattle.rules.proofs.Kept.{Configured};
 
 // A notice: server `about` is dead (0) or alive (1).
@@ -30,26 +30,33 @@ pub fn notice(c: Config, k: u32, r: u32, s: Server, about: u32, says: u32) -> Se
     leading::noticed(c, k, r, s, about, says)
 }
 
-// The server when it comes back: records survive, and all else of its own is as new.
-pub fn come_back(r: u32, s: Server) -> ServerAnswer
-    ensures { λ x. ⌜ x ≡ afterReturn r s ⌝ }
+// A server that believes everyone live, with nothing led, reserved, lent or open.
+pub fn cleared(alive: bool, changed: u32, returned: u32, records: [u32; 32]) -> Server
+    ensures { λ s. ⌜ s ≡ clearedServer alive changed returned records ⌝ }
 {
     let free = Reservation {
         state: Reserved::Free,
     };
     let w = closed();
-    let records = s.potlease;
-    let t = Server {
-        alive: s.alive,
-        changed: s.changed,
-        returned: r,
+    Server {
+        alive: alive,
+        changed: changed,
+        returned: returned,
         believed: [true; 4],
         leads: [false; 32],
         reserved: [free; 32],
         lent: [0; 32],
         potlease: records,
         writes: [w; 32],
-    };
+    }
+}
+
+// The server when it comes back: records survive, and all else of its own is as new.
+pub fn come_back(r: u32, s: Server) -> ServerAnswer
+    ensures { λ x. ⌜ x ≡ afterReturn r s ⌝ }
+{
+    let records = s.potlease;
+    let t = cleared(s.alive, s.changed, r, records);
     let none = nothing();
     ServerAnswer {
         server: t,

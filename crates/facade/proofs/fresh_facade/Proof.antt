@@ -3,15 +3,15 @@ use borrow.Author.Needs.{needs}
 use Rattle.facade.proofs.fresh_facade.Statement.{statement}
 use Rattle.facade.proofs.fresh_facade.Tie as tie
 
-closed-requires : tie.Need-closed-requires
-closed-requires c κs = search needs
+cleared-requires : tie.Need-cleared-requires
+cleared-requires c κs = search needs
 
 empty-requires : tie.Need-empty-requires
 empty-requires c κs = search needs
 
 returns : tie.Need-returns
 unfolding fresh
-returns c = rw (c .empty .ensures, c .before .closed .ensures)
+returns c = rw (c .empty .ensures, c .before .cleared .ensures)
 
 pub fresh-facade-spec : {M : Type 1} → statement M
-fresh-facade-spec = tie.close (tie.spec closed-requires empty-requires returns)
+fresh-facade-spec = tie.close (tie.spec cleared-requires empty-requires returns)

@@ -9,8 +9,8 @@ use Rattle.facade.proofs.step.Tie as tie
 facade-in-range-requires : tie.Need-facade-in-range-requires
 facade-in-range-requires c κs = search needs
 
-by-kind-requires : tie.Need-by-kind-requires
-by-kind-requires c κs = to-T _ (sym (c .before .facade-in-range .ensures) ∙ c .if1 .taken)
+step-in-range-requires : tie.Need-step-in-range-requires
+step-in-range-requires c κs = to-T _ (sym (c .before .facade-in-range .ensures) ∙ c .if1 .taken)
 
 returns : tie.Need-returns
 returns c = search needs
@@ -25,4 +25,4 @@ returns-2 c = let a = c .before .before .before .args in
 pub step-spec : {M : Type 1} → statement M
 step-spec =
     tie.close
-    (tie.spec facade-in-range-requires by-kind-requires returns refused-requires returns-2)
+    (tie.spec facade-in-range-requires step-in-range-requires returns refused-requires returns-2)

@@ -4,7 +4,7 @@ use denote.Ref.{now}
 use borrow.Author.Needs.{needs}
 use Rattle.report.specs.Lines.{facadeLine}
 use Rattle.report.proofs.Laws.{facade-line-short, put-then}
-use Rattle.replay.proofs.Whole.{short-is-left, all-is-put, refused-output, accepted-output, accepted-is-short}
+use Rattle.replay.proofs.Whole.{short-is-left, all-is-put, refused-output, accepted-output, accepted-is-ranged, accepted-is-short}
 use Rattle.replay.proofs.run.Statement.{statement}
 use Rattle.replay.proofs.run.Tie as tie
 
@@ -34,7 +34,7 @@ put-lines-requires : tie.Need-put-lines-requires
 put-lines-requires c κs =
     let d = c .before .before .before .before .before in
     let h = d .before .before .read-header in
-    (accepted-is-short _ _ (h .ensures) (d .if2 .left), omega (arith, facade-line-short (h .result .config)), omega arith)
+    (accepted-is-ranged _ _ (h .ensures) (d .if2 .left), accepted-is-short _ _ (h .ensures) (d .if2 .left), omega (arith, facade-line-short (h .result .config)), omega arith)
 
 same-length-2 : tie.Need-same-length-2
 same-length-2 c = search needs

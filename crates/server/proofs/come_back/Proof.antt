@@ -3,15 +3,15 @@ use borrow.Author.Needs.{needs}
 use Rattle.server.proofs.come_back.Statement.{statement}
 use Rattle.server.proofs.come_back.Tie as tie
 
-closed-requires : tie.Need-closed-requires
-closed-requires c κs = search needs
+cleared-requires : tie.Need-cleared-requires
+cleared-requires c κs = search needs
 
 nothing-requires : tie.Need-nothing-requires
 nothing-requires c κs = search needs
 
 returns : tie.Need-returns
 unfolding afterReturn
-returns c = rw (c .nothing .ensures, c .before .before .closed .ensures)
+returns c = rw (c .nothing .ensures, c .before .cleared .ensures)
 
 pub come-back-spec : {M : Type 1} → statement M
-come-back-spec = tie.close (tie.spec closed-requires nothing-requires returns)
+come-back-spec = tie.close (tie.spec cleared-requires nothing-requires returns)

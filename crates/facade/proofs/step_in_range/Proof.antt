@@ -2,8 +2,8 @@ use mathlib.Core.Path.{_∙_}
 use Rattle.rules.proofs.Actions.{action-pass, action-fail, action-return, action-notice, action-discover, action-request, action-renew, action-deliver, action-lose, action-cleanup, action-unknown}
 use Rattle.facade.proofs.Laws.{unknown-4, step-is}
 use borrow.Author.Needs.{needs}
-use Rattle.facade.proofs.by_kind.Statement.{statement}
-use Rattle.facade.proofs.by_kind.Tie as tie
+use Rattle.facade.proofs.step_in_range.Statement.{statement}
+use Rattle.facade.proofs.step_in_range.Tie as tie
 
 pass-step-requires : tie.Need-pass-step-requires
 pass-step-requires c κs = search needs
@@ -83,8 +83,8 @@ returns-11 c = let a = c .before .before .args in
     let r = c .before .match .rest in
     c .refused .ensures ∙ unknown-4 (a .f) (c .before .before .pre) ∙ step-is _ (a .s) _ (action-unknown (a .s) (r .0 .0 .0 .0 .0 .0 .0 .0 .0 .1) (r .0 .0 .0 .0 .0 .0 .0 .0 .1) (r .0 .0 .0 .0 .0 .0 .0 .1) (r .0 .0 .0 .0 .0 .0 .1) (r .0 .0 .0 .0 .0 .1) (r .0 .0 .0 .0 .1) (r .0 .0 .0 .1) (r .0 .0 .1) (r .0 .1) (r .1))
 
-pub by-kind-spec : {M : Type 1} → statement M
-by-kind-spec =
+pub step-in-range-spec : {M : Type 1} → statement M
+step-in-range-spec =
     tie.close
     (tie.spec
     pass-step-requires
