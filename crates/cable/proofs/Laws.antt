@@ -11,21 +11,21 @@ use Rattle.types.specs.declared.Outbox.{Outbox}
 use Rattle.types.specs.declared.Facade.{Facade}
 use Rattle.rules.specs.Parts.{noMessage, withMessages}
 use Rattle.rules.specs.Messages.{sentBehind, removed}
+use Rattle.rules.proofs.Cable.{length-sent}
 
--- where there is no room a message is counted, and the places stay
-pub send-full : (f : Facade) (m : Message) → length (f .messages) ≡ 128 → 128 ≤ f .waiting
-    → withMessages f (f .messages) (f .waiting + 1) ≡ withMessages f (set (f .messages) (f .waiting) m) (f .waiting + 1)
-send-full f m e h = ap (λ (ms : List Message). withMessages f ms (f .waiting + 1)) (sym (set-out (f .messages) (f .waiting) m (omega arith)))
+-- one message of the outbox more, the same where there is no room for it, and all of them
+module _ (f : Facade) (w : ℕ) (o : Outbox) (n : ℕ) (g : Facade) (e : g ≡ withMessages f (sentBehind (f .messages) w o n) (f .waiting)) where
+  pub sent-more : withMessages g (set (g .messages) (w + n) (getD (o .messages) n noMessage)) (g .waiting)
+      ≡ withMessages f (sentBehind (f .messages) w o (n + 1)) (f .waiting)
+  unfolding sentBehind
+  sent-more = rw (add-one, e)
 
--- one message of the outbox more
-pub send-more : (f : Facade) (o : Outbox) (n : ℕ) (g r : Facade)
-    → g ≡ withMessages f (sentBehind (f .messages) (f .waiting) o n) (f .waiting + n)
-    → r ≡ withMessages g (set (g .messages) (g .waiting) (getD (o .messages) n noMessage)) (g .waiting + 1)
-    → r ≡ withMessages f (sentBehind (f .messages) (f .waiting) o (n + 1)) (f .waiting + (n + 1))
-unfolding sentBehind
-send-more f o n g r e q =
-    let s : f .waiting + n + 1 ≡ f .waiting + suc n = omega arith in
-    rw (add-one, ← s) (q ∙ rw e)
+  pub sent-full : length (f .messages) ≡ 128 → 128 ≤ w + n → g ≡ withMessages f (sentBehind (f .messages) w o (n + 1)) (f .waiting)
+  unfolding sentBehind
+  sent-full l h = rw (add-one, set-out (sentBehind (f .messages) w o n) (w + n) (getD (o .messages) n noMessage) (omega (arith, length-sent (f .messages) w o n))) e
+
+  pub sent-all : (k : ℕ) → n ≡ o .count → withMessages g (g .messages) k ≡ withMessages f (sentBehind (f .messages) w o (o .count)) k
+  sent-all k h = rw (e, h)
 
 -- with those from p on up to i moved up by one, one more
 pub move-more : (ms : List Message) (p i : ℕ) → p ≤ i → i + 1 < length ms

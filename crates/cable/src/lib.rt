@@ -3,42 +3,29 @@ use types::Facade;
 use types::Message;
 use types::Outbox;
 ghost use mathlib.Core.Path.{_≡_};
-ghost use Prim.Native.Nat.{_+_, _≤_, _<_};
-ghost use Rattle.rules.specs.Parts.{withMessages};
-ghost use lib.ListN.{set};
+ghost use Prim.Native.Nat.{_≤_, _<_};
 ghost use Rattle.rules.specs.Messages.{sendAll, removed, without as withoutMessage};
 ghost use Rattle.rules.specs.Steps.{takenOut};
 
-// One message more, counted also where there is no room for it.
-fn send(f: Facade, m: Message) -> Facade
-    requires { ⌜ f .waiting ≤ 200 ⌝ }
-    ensures { λ r. ⌜ r ≡ withMessages f (set (f .messages) (f .waiting) m) (f .waiting + 1) ⌝ }
-{
-    let mut g = f;
-    let n = f.waiting;
-    g.waiting = n + 1;
-    if n < 128 {
-        let at = n as usize;
-        g.messages[at] = m;
-        return g;
-    }
-    g
-}
-
-// What is sent waits behind the others, in order.
+// What is sent waits behind the others, in order; counted also where there is no room for it.
 pub fn send_all(f: Facade, o: Outbox) -> Facade
     requires { ⌜ (f .waiting ≤ 128) × (o .count ≤ 4) ⌝ }
     ensures { λ r. ⌜ r ≡ sendAll f o ⌝ }
 {
-    let mut g = f;
+    let before = f.waiting;
     let count = o.count;
+    let mut g = f;
     let mut n = 0;
     while n < count {
         let at = n as usize;
         let m = o.messages[at];
-        g = send(g, m);
+        let place = (before + n) as usize;
+        if place < 128 {
+            g.messages[place] = m;
+        }
         n += 1;
     }
+    g.waiting = before + count;
     g
 }
 

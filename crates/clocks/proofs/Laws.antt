@@ -1,27 +1,14 @@
 -- Laws of the rules' definitions that the proofs of the code cite.
 use mathlib.Core.Path.{_≡_, refl, ap, _∙_}
-use mathlib.Core.Bool.{Bool, not}
 use Prim.Native.Nat.{ℕ, _+_}
-use borrow.Author.Tests.{ne-eqb}
-use lib.Dec.{ltb}
 use native.Mathlib.Numerals.{add-one}
 use lib.ListN.{set}
 use Rattle.types.specs.declared.State.{State}
 use Rattle.types.specs.declared.Facade.{Facade}
-use Rattle.rules.specs.Conditions.{_or_, filled}
-use Rattle.rules.specs.Parts.{inState, serverAt, stateAt, clock, clientParty, withClients}
+use Rattle.rules.specs.Conditions.{filled}
+use Rattle.rules.specs.Parts.{inState, stateAt, clock, clientParty, withClients}
 use Rattle.rules.specs.Client.{lapsed}
-use Rattle.rules.specs.Steps.{isCredible, lapse}
-
--- a notice, by what it says
-module _ (f : Facade) (j says : ℕ) (x : Bool) where
-  pub credible-alive : says ≡ 1 → x ≡ ((serverAt f j) .alive or ltb (f .time) ((serverAt f j) .changed + f .config .silence)) → x ≡ isCredible f j says
-  unfolding isCredible
-  credible-alive h e = rw h e
-
-  pub credible-dead : (says ≡ 1 → ⊥) → x ≡ (not ((serverAt f j) .alive) or ltb (f .time) ((serverAt f j) .changed + f .config .silence)) → x ≡ isCredible f j says
-  unfolding isCredible
-  credible-dead n e = rw (ne-eqb says 1 n) e
+use Rattle.rules.specs.Steps.{lapse}
 
 -- the facade with holds ended at the clients below n
 pub lapsedBelow : Facade → ℕ → Facade

@@ -22,7 +22,8 @@ fn handle(f: Facade, m: Message) -> Answer
 {
     let c = f.config;
     let to = m.receiver;
-    let r = clock_of(f, to);
+    let os = f.offsets;
+    let r = clock_of(f.time, os, to);
     if to < c.servers {
         let at = to as usize;
         let s = f.servers[at];

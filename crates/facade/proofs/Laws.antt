@@ -14,10 +14,10 @@ use Rattle.types.specs.declared.Facade.{Facade}
 use Rattle.types.specs.declared.Answer.{Answer}
 use Rattle.rules.specs.Conditions.{_and_, within}
 use Rattle.rules.specs.Clock.{signed}
-use Rattle.rules.specs.Parts.{serverAt, clock, withNotices, withLife, withServer}
+use Rattle.rules.specs.Parts.{serverAt, offsetAt, clock, withNotices, withLife, withServer}
 use Rattle.rules.specs.Ranges.{inRange}
 use Rattle.rules.specs.Server.{noticed, afterReturn, cleaned}
-use Rattle.rules.specs.Steps.{Action, pass, fail, return, notice, lose, cleanup, unknown, isKnown, fieldsInRange, exists, stateAllows, ofPass, timeLeft, clockAllows, inTouch, ofNotice, isCredible, interactionLeft, accepted, refused, serverActs, moved, lapse, effect, action, answerTo, rowNow, step}
+use Rattle.rules.specs.Steps.{Action, pass, fail, return, notice, lose, cleanup, unknown, isKnown, fieldsInRange, exists, stateAllows, ofPass, timeLeft, offsetAllows, clockAllows, inTouch, ofNotice, isSoOf, isCredible, interactionLeft, accepted, refused, serverActs, moved, lapse, effect, action, answerTo, rowNow, step}
 use Rattle.rules.proofs.Laws.{true-of, and-l, and-r, within-high}
 use Rattle.rules.proofs.Actions.{action-pass, action-notice}
 use Rattle.rules.proofs.Refusals.{refused-4, refused-5, refused-6, refused-7, refused-8, refused-9, refused-10, refused-11, unless-full}
@@ -169,6 +169,17 @@ unfolding fieldsInRange
 pass-moves d p z e =
     let t : T (fieldsInRange (pass d p z)) = rw e tt in
     (within-high 1 100000 d (and-l _ _ t), leb→le (natAbs z) 2000 (and-r (within 1 100000 d) _ t))
+
+-- refusal 9, by the offset and the amount as the code read them
+pub clock-allows : (f : Facade) (d p : ℕ) {o e z : ℤ} {r : Bool} → o ≡ offsetAt f p → e ≡ z → r ≡ offsetAllows (f .config) o d e → r ≡ clockAllows f d p z
+unfolding clockAllows
+clock-allows f d p h q u = u ∙ rw (h, q)
+
+-- refusal 11, by the server that the notice is about
+pub notice-credible : (f : Facade) (j says : ℕ) {r : Bool}
+    → r ≡ isSoOf (f .config) (f .time) (serverAt f j) says → r ≡ isCredible f j says
+unfolding isCredible
+notice-credible f j says e = e
 
 -- the effect of a pass, and that of a notice, by what each call answered
 module _ (f : Facade) where

@@ -83,19 +83,21 @@ fn pass_step(f: Facade, s: Step) -> Answer
     requires { ⌜ T (inRange f) × (s .kind ≡ 1) ⌝ }
     ensures { λ r. ⌜ r ≡ answerTo f (pass (s .first) (s .second) (signed (s .third))) ⌝ }
 {
+    let c = f.config;
     let d = s.first;
     let p = s.second;
     let e = as_signed(s.third);
     if !fields_in_range(s) {
         return refused(f, 5);
     }
-    if f.config.servers + f.config.clients <= p {
+    if c.servers + c.clients <= p {
         return refused(f, 6);
     }
     if 1000000000 < f.time + d {
         return refused(f, 8);
     }
-    if !does_clock_allow(f, d, p, e) {
+    let at = p as usize;
+    if !does_clock_allow(c, f.offsets[at], d, e) {
         return refused(f, 9);
     }
     if !is_in_touch(f, d) {
@@ -139,7 +141,8 @@ fn return_step(f: Facade, k: u32) -> Answer
     if s.alive {
         return refused(f, 7);
     }
-    let x = server::come_back(clock_of(f, k), s);
+    let os = f.offsets;
+    let x = server::come_back(clock_of(f.time, os, k), s);
     let mut t = x.server;
     t.alive = true;
     t.changed = f.time;
@@ -171,13 +174,16 @@ fn notice_step(f: Facade, s: Step) -> Answer
     if !own.alive {
         return refused(f, 7);
     }
-    if !is_credible_notice(f, j, s.third) {
+    let about = j as usize;
+    let other = f.servers[about];
+    if !is_credible_notice(c, f.time, other, s.third) {
         return refused(f, 11);
     }
     let mut g = f;
-    let about = (k * 4 + j) as usize;
-    g.notices[about] = f.time;
-    let x = server::notice(c, k, clock_of(f, k), own, j, s.third);
+    let place = (k * 4 + j) as usize;
+    g.notices[place] = f.time;
+    let os = f.offsets;
+    let x = server::notice(c, k, clock_of(f.time, os, k), own, j, s.third);
     unless_full(f, server_acts(g, k, x))
 }
 
@@ -206,11 +212,12 @@ fn cleanup_step(f: Facade, k: u32) -> Answer
     if !s.alive {
         return refused(f, 7);
     }
-    let x = server::clean_up(c, clock_of(f, k), s);
+    let os = f.offsets;
+    let x = server::clean_up(c, clock_of(f.time, os, k), s);
     unless_full(f, server_acts(f, k, x))
 }
 
-// A step of a facade that is known to be in range, as one is that a step gave back: the kind number decides it.
+// A step of a facade that is known to be in range, as a fresh one is and stays: the kind number decides it.
 pub fn step_in_range(f: Facade, s: Step) -> Answer
     requires { ⌜ T (inRange f) ⌝ }
     ensures { λ r. ⌜ r ≡ stepOf f s ⌝ }

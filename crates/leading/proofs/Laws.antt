@@ -8,8 +8,8 @@ use lib.ListN.{set}
 use Rattle.types.specs.declared.Config.{Config}
 use Rattle.types.specs.declared.Server.{Server}
 use Rattle.rules.specs.Conditions.{filled}
-use Rattle.rules.specs.Parts.{withLeading}
-use Rattle.rules.specs.Server.{leadsAfter, recordAfter, leadingWith}
+use Rattle.rules.specs.Parts.{leadsAt, recordAt, withLeading}
+use Rattle.rules.specs.Server.{mayLead, raised, leadsAfter, recordAfter, leadingWith}
 
 -- server k with the set b, done for the addresses below n
 pub led : Config → ℕ → ℕ → Server → List Bool → ℕ → Server
@@ -20,10 +20,12 @@ module _ (c : Config) (k r : ℕ) (s : Server) (b : List Bool) where
   unfolding led filled
   led-none = refl
 
-  pub led-more : (n : ℕ) (t : Server) (l : Bool) (v : ℕ) → t ≡ led c k r s b n → l ≡ leadsAfter c k r s b n → v ≡ recordAfter c k r s b n
+  -- as the code has it of the parts
+  pub led-more : (n : ℕ) (t : Server) (l : Bool) (v : ℕ) → t ≡ led c k r s b n
+      → l ≡ mayLead c k r (s .returned) (leadsAt s n) b n → v ≡ raised c r (leadsAt s n) l (recordAt s n)
       → withLeading t (t .believed) (set (t .leads) n l) (set (t .potlease) n v) ≡ led c k r s b (n + 1)
-  unfolding led filled
-  led-more n t l v e p q = rw (add-one, e, p, q)
+  unfolding led filled leadsAfter recordAfter
+  led-more n t l v e p q = rw (add-one, e, q, p)
 
   pub led-all : (n : ℕ) (t : Server) → n ≡ c .addresses → t ≡ led c k r s b n → t ≡ leadingWith c k r s b
   unfolding led leadingWith

@@ -14,7 +14,7 @@ ghost use lib.Dec.{leb};
 ghost use Rattle.rules.specs.Conditions.{_or_};
 ghost use Rattle.rules.specs.Parts.{believes};
 ghost use Rattle.rules.specs.Order.{rank, isFirst};
-ghost use Rattle.rules.specs.Server.{leadsAfter, recordAfter, leadingWith, noticed as afterNotice};
+ghost use Rattle.rules.specs.Server.{mayLead, raised, leadingWith, noticed as afterNotice};
 ghost use Rattle.rules.proofs.Kept.{Configured};
 
 // Whether server j is not believed live, or has no lower rank than `own`.
@@ -42,27 +42,25 @@ fn is_first(n: u32, a: u32, k: u32, b: [bool; 4]) -> bool
     both(b[at], first)
 }
 
-fn leads_after(c: Config, k: u32, r: u32, s: Server, b: [bool; 4], a: u32) -> bool
-    requires { ⌜ Configured c × (k < c .servers) × (a < c .addresses) ⌝ }
-    ensures { λ l. ⌜ l ≡ leadsAfter c k r s b a ⌝ }
+// Whether it leads address a now: `returned` is its return reading, `before` whether it led it.
+fn leads_after(c: Config, k: u32, r: u32, returned: u32, before: bool, b: [bool; 4], a: u32) -> bool
+    requires { ⌜ Configured c × (k < c .servers) ⌝ }
+    ensures { λ l. ⌜ l ≡ mayLead c k r returned before b a ⌝ }
 {
-    let at = a as usize;
     let first = is_first(c.servers, a, k, b);
-    let due = (s.returned as u64) + ((2 * c.silence + 2 * c.skew) as u64);
-    both(first, either(s.leads[at], due <= (r as u64)))
+    let due = (returned as u64) + ((2 * c.silence + 2 * c.skew) as u64);
+    both(first, either(before, due <= (r as u64)))
 }
 
-fn record_after(c: Config, k: u32, r: u32, s: Server, b: [bool; 4], a: u32) -> u32
-    requires { ⌜ Configured c × (k < c .servers) × (a < c .addresses) × (r ≤ 1000001000) ⌝ }
-    ensures { λ v. ⌜ v ≡ recordAfter c k r s b a ⌝ }
+// The record of an address, v before, by whether it led it before and leads it now.
+fn record_after(c: Config, r: u32, before: bool, now: bool, v: u32) -> u32
+    requires { ⌜ Configured c × (r ≤ 1000001000) ⌝ }
+    ensures { λ x. ⌜ x ≡ raised c r before now v ⌝ }
 {
-    let at = a as usize;
-    let before = s.leads[at];
-    let now = leads_after(c, k, r, s, b, a);
     if both(now, !before) {
-        return larger(s.potlease[at], r + c.mclt + 2 * c.skew);
+        return larger(v, r + c.mclt + 2 * c.skew);
     }
-    s.potlease[at]
+    v
 }
 
 // The server with the set b: for each address whether it leads, and its record.
@@ -76,8 +74,10 @@ fn leading_with(c: Config, k: u32, r: u32, s: Server, b: [bool; 4]) -> Server
     let mut a = 0;
     while a < n {
         let at = a as usize;
-        t.leads[at] = leads_after(c, k, r, s, b, a);
-        t.potlease[at] = record_after(c, k, r, s, b, a);
+        let before = s.leads[at];
+        let now = leads_after(c, k, r, s.returned, before, b, a);
+        t.leads[at] = now;
+        t.potlease[at] = record_after(c, r, before, now, s.potlease[at]);
         a += 1;
     }
     t

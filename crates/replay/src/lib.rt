@@ -44,8 +44,8 @@ fn put_lines(s: &[u8], c: Config, out: &mut [u8], start: usize) -> usize
     put_held_line(out, at, held(f))
 }
 
-// Runs a script and answers how long its output is, which is put at the front of the buffer. A buffer that has no room for the
-// longest output is left as it is.
+// Runs a script and answers how long its output is, which is put at the front of the buffer. A buffer of less than
+// 2,097,152 bytes is left as it is.
 pub fn run(s: &[u8], out: &mut [u8]) -> usize
     ensures { λ r. ⌜ r ≡ outputLength (now (s .entry)) (length (now (out .entry))) ⌝ }
     ensures { λ _. ⌜ now (out .exit) ≡ buffer (now (s .entry)) (now (out .entry)) ⌝ }

@@ -1,4 +1,4 @@
--- The worked examples of document 01: rows P1 to P12 and the run of the rig. Each is computed by `step` itself, refusal 2 included.
+-- The worked examples of document 01: rows P1 to P12 and the run of the rig. Each but P12 is computed by `step` itself, refusal 2 included.
 use mathlib.Core.Path.{_≡_, refl}
 use mathlib.Core.Bool.{Bool, true, false}
 use mathlib.Core.List.{List, [], _∷_, _++_, map}

@@ -45,12 +45,18 @@ leadRecord c r = r + c .mclt + 2 * c .skew
 
 -- "the server leads it if it is first among its believed live in that address's order
 -- and either led it already or its clock is at least its return reading + 2ν + 2Δ. Else it does not lead."
-unfoldable pub leadsAfter : Config → ℕ → ℕ → Server → List Bool → ℕ → Bool
-leadsAfter c k r s b a = isFirst (c .servers) a k b and (leadsAt s a or leb (s .returned + leadDelay c) r)
+abbrev pub mayLead : Config → ℕ → ℕ → ℕ → Bool → List Bool → ℕ → Bool
+mayLead c k r returned before b a = isFirst (c .servers) a k b and (before or leb (returned + leadDelay c) r)
 
--- "On beginning to lead, record := larger of the record and clock + μ + 2Δ, in the same step."
+unfoldable pub leadsAfter : Config → ℕ → ℕ → Server → List Bool → ℕ → Bool
+leadsAfter c k r s b a = mayLead c k r (s .returned) (leadsAt s a) b a
+
+-- "On beginning to lead, record := larger of the record and clock + μ + 2Δ, in the same step." The record is v.
+abbrev pub raised : Config → ℕ → Bool → Bool → ℕ → ℕ
+raised c r before now v = cond (now and not before) (max v (leadRecord c r)) v
+
 unfoldable pub recordAfter : Config → ℕ → ℕ → Server → List Bool → ℕ → ℕ
-recordAfter c k r s b a = cond (leadsAfter c k r s b a and not (leadsAt s a)) (max (recordAt s a) (leadRecord c r)) (recordAt s a)
+recordAfter c k r s b a = raised c r (leadsAt s a) (leadsAfter c k r s b a) (recordAt s a)
 
 -- the server with the set b, each address below A decided anew
 unfoldable pub leadingWith : Config → ℕ → ℕ → Server → List Bool → Server

@@ -147,9 +147,12 @@ ofPass g unknown = true
 unfoldable pub timeLeft : Facade → ℕ → ℕ → ℤ → Bool
 timeLeft f d p e = leb (f .time + d) lastTime
 
--- Refusal 9. "A clock would go back (d+e below 0) or be off by more than Δ."
+-- Refusal 9. "A clock would go back (d+e below 0) or be off by more than Δ." The clock is ahead by o.
+abbrev pub offsetAllows : Config → ℤ → ℕ → ℤ → Bool
+offsetAllows c o d e = notNegative d e and leb (natAbs (o +ℤ e)) (c .skew)
+
 unfoldable pub clockAllows : Facade → ℕ → ℕ → ℤ → Bool
-clockAllows f d p e = notNegative d e and leb (natAbs (offsetAt f p +ℤ e)) (f .config .skew)
+clockAllows f d p e = offsetAllows (f .config) (offsetAt f p) d e
 
 -- Refusal 10. "A pass would leave a live server more than ν without a notice about another."
 unfoldable pub inTouch : Facade → ℕ → ℕ → ℤ → Bool
@@ -157,10 +160,12 @@ inTouch f d p e =
     all (λ k. not ((serverAt f k) .alive) or all (λ j. eqb j k or leb (f .time + d) (noticeAt f k j + f .config .silence)) (f .config .servers))
     (f .config .servers)
 
--- Refusal 11. "A dead notice about a server alive for ν or more since c, or an alive notice about one dead for ν or more."
+-- Refusal 11. "A dead notice about a server alive for ν or more since c, or an alive notice about one dead for ν or more." The server is s, true time t.
+abbrev pub isSoOf : Config → ℕ → Server → ℕ → Bool
+isSoOf c t s says = cond (eqb says 1) (s .alive) (not (s .alive)) or ltb t (s .changed + c .silence)
+
 unfoldable pub isCredible : Facade → ℕ → ℕ → Bool
-isCredible f j says =
-    cond (eqb says 1) ((serverAt f j) .alive) (not ((serverAt f j) .alive)) or ltb (f .time) ((serverAt f j) .changed + f .config .silence)
+isCredible f j says = isSoOf (f .config) (f .time) (serverAt f j) says
 
 -- a test of a notice alone
 unfoldable pub ofNotice : (ℕ → ℕ → Bool) → Action → Bool

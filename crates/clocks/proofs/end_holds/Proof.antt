@@ -7,10 +7,10 @@ use Rattle.clocks.proofs.end_holds.Statement.{statement}
 use Rattle.clocks.proofs.end_holds.Tie as tie
 
 abbrev Inv-loop : tie.InvT-loop
-Inv-loop f c count g₀ i₀ g i = (i ≤ count) × (count ≤ 32) × (g ≡ lapsedBelow f i)
+Inv-loop f c count os g₀ i₀ g i = (i ≤ count) × (count ≤ 32) × (g ≡ lapsedBelow f i)
 
 abbrev μ-loop : tie.MeasureT-loop
-μ-loop f c count g₀ i₀ g i = count - i
+μ-loop f c count os g₀ i₀ g i = count - i
 
 loop-holds : tie.Need-loop-holds Inv-loop μ-loop
 loop-holds c = (omega arith, omega arith, lapsed-none _)
@@ -33,8 +33,8 @@ clock-of-requires c κs = omega arith
 lapse-requires : tie.Need-lapse-requires Inv-loop μ-loop
 lapse-requires c κs = search needs
 
-mul-t13 : tie.Need-mul-t13 Inv-loop μ-loop
-mul-t13 c = omega arith
+mul-t14 : tie.Need-mul-t14 Inv-loop μ-loop
+mul-t14 c = omega arith
 
 element-set-from-g : tie.Need-element-set-from-g Inv-loop μ-loop
 element-set-from-g c = omega arith
@@ -64,7 +64,7 @@ end-holds-spec =
     add-clock-of
     clock-of-requires
     lapse-requires
-    mul-t13
+    mul-t14
     element-set-from-g
     add-i
     loop-less

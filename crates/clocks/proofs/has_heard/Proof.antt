@@ -19,8 +19,8 @@ cast-at c = search needs
 mul-last : tie.Need-mul-last
 mul-last c = search needs
 
-element-copy-out-last : tie.Need-element-copy-out-last
-element-copy-out-last c = search needs
+array-read-last : tie.Need-array-read-last
+array-read-last c = search needs
 
 cast-last : tie.Need-cast-last
 cast-last c = search needs
@@ -30,7 +30,7 @@ cast-last-2 c = search needs
 
 add-last : tie.Need-add-last
 add-last c = let a = c .before .args in
-    let h : Fits w32 (getD (a .t1 .notices) (a .k * 4 + a .j) 0) = search needs in
+    let h : Fits w32 (getD (a .t2) (a .k * 4 + a .j) 0) = search needs in
     omega arith
 
 either-requires : tie.Need-either-requires
@@ -47,7 +47,7 @@ has-heard-spec =
     add-at
     cast-at
     mul-last
-    element-copy-out-last
+    array-read-last
     cast-last
     cast-last-2
     add-last

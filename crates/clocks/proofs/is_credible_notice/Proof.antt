@@ -1,13 +1,7 @@
-use Rattle.clocks.proofs.Laws.{credible-alive, credible-dead}
+use borrow.Author.Tests.{ne-eqb}
 use borrow.Author.Needs.{needs}
 use Rattle.clocks.proofs.is_credible_notice.Statement.{statement}
 use Rattle.clocks.proofs.is_credible_notice.Tie as tie
-
-mul-s : tie.Need-mul-s
-mul-s c = search needs
-
-element-copy-out-s : tie.Need-element-copy-out-s
-element-copy-out-s c = search needs
 
 cast-until : tie.Need-cast-until
 cast-until c = search needs
@@ -18,31 +12,25 @@ cast-until-2 c = search needs
 add-until : tie.Need-add-until
 add-until c = search needs
 
-cast-recent : tie.Need-cast-recent
-cast-recent c = search needs
-
 either-requires : tie.Need-either-requires
 either-requires c κs = search needs
 
 returns : tie.Need-returns
-returns c = credible-alive _ _ _ _ (c .before .if1 .taken) (c .either .ensures)
+returns c = rw (c .before .if1 .taken) (c .either .ensures)
 
 either-requires-2 : tie.Need-either-requires-2
 either-requires-2 c κs = search needs
 
 returns-2 : tie.Need-returns-2
-returns-2 c = credible-dead _ _ _ _ (c .before .before .if1 .left) (c .either2 .ensures)
+returns-2 c = rw (ne-eqb _ 1 (c .before .before .if1 .left)) (c .either2 .ensures)
 
 pub is-credible-notice-spec : {M : Type 1} → statement M
 is-credible-notice-spec =
     tie.close
     (tie.spec
-    mul-s
-    element-copy-out-s
     cast-until
     cast-until-2
     add-until
-    cast-recent
     either-requires
     returns
     either-requires-2

@@ -1,27 +1,20 @@
-use mathlib.Core.Path.{_≡_, refl, ap, _∙_}
-use mathlib.Core.Bool.{Bool, not}
-use Prim.Native.Nat.{_+_, _-_, _≤_}
+use mathlib.Core.Path.{_≡_, refl}
+use Prim.Native.Nat.{_+_, _*_, _-_, _≤_}
 use native.Mathlib.Omega.{arith}
 use lib.Dec.{eqb, leb}
+use lib.ListN.{getD}
 use borrow.Author.Needs.{needs}
 use Rattle.rules.specs.Conditions.{_or_, all}
-use Rattle.rules.specs.Parts.{noticeAt, serverAt}
 use Rattle.rules.proofs.Laws.{all-more, all-done}
 use Rattle.clocks.proofs.is_heard_by.Statement.{statement}
 use Rattle.clocks.proofs.is_heard_by.Tie as tie
 
 abbrev Inv-loop : tie.InvT-loop
-Inv-loop now k f at s count ok₀ j₀ ok j =
-    (j ≤ count) × (count ≤ 4) × (ok ≡ all (λ i. eqb i k or leb now (noticeAt f k i + f .config .silence)) j)
+Inv-loop c ts now k count ok₀ j₀ ok j =
+    (j ≤ count) × (count ≤ 4) × (ok ≡ all (λ i. eqb i k or leb now (getD ts (k * 4 + i) 0 + c .silence)) j)
 
 abbrev μ-loop : tie.MeasureT-loop
-μ-loop now k f at s count ok₀ j₀ ok j = count - j
-
-mul-s : tie.Need-mul-s Inv-loop μ-loop
-mul-s c = omega arith
-
-element-copy-out-s : tie.Need-element-copy-out-s Inv-loop μ-loop
-element-copy-out-s c = omega arith
+μ-loop c ts now k count ok₀ j₀ ok j = count - j
 
 loop-holds : tie.Need-loop-holds Inv-loop μ-loop
 unfolding all
@@ -42,12 +35,8 @@ loop-less c = omega arith
 loop-again : tie.Need-loop-again Inv-loop μ-loop
 loop-again c = (omega arith, omega arith, all-more _ _ _ _ _ (c .before .has-heard .ensures) (c .before .before .before .loop .inv .2) (c .both .ensures))
 
-either-requires : tie.Need-either-requires Inv-loop μ-loop
-either-requires c κs = search needs
-
 returns : tie.Need-returns Inv-loop μ-loop
-returns c = let a = c .before .before .before .before .before .args in
-    c .either .ensures ∙ ap (λ (b : Bool). not ((serverAt (a .t1) (a .k)) .alive) or b) (all-done _ _ _ _ (omega arith) (c .before .before .before .loop .inv .2))
+returns c = all-done _ _ _ _ (omega arith) (c .before .loop .inv .2)
 
 pub is-heard-by-spec : {M : Type 1} → statement M
 is-heard-by-spec =
@@ -55,13 +44,10 @@ is-heard-by-spec =
     (tie.spec
     Inv-loop
     μ-loop
-    mul-s
-    element-copy-out-s
     loop-holds
     has-heard-requires
     both-requires
     add-j
     loop-less
     loop-again
-    either-requires
     returns)

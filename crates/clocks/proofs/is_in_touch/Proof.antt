@@ -1,4 +1,4 @@
-use mathlib.Core.Path.{_≡_, refl}
+use mathlib.Core.Path.{_≡_, refl, _∙_}
 use mathlib.Core.Bool.{not}
 use Prim.Native.Nat.{_+_, _-_, _≤_}
 use native.Mathlib.Omega.{arith}
@@ -12,12 +12,12 @@ use Rattle.clocks.proofs.is_in_touch.Statement.{statement}
 use Rattle.clocks.proofs.is_in_touch.Tie as tie
 
 abbrev Inv-loop : tie.InvT-loop
-Inv-loop f d now count ok₀ k₀ ok k =
+Inv-loop d f c ts now count ok₀ k₀ ok k =
     (k ≤ count) × (count ≤ 4)
-    × (ok ≡ all (λ i. not ((serverAt f i) .alive) or all (λ j. eqb j i or leb now (noticeAt f i j + f .config .silence)) (f .config .servers)) k)
+    × (ok ≡ all (λ i. not ((serverAt f i) .alive) or all (λ j. eqb j i or leb now (noticeAt f i j + c .silence)) (c .servers)) k)
 
 abbrev μ-loop : tie.MeasureT-loop
-μ-loop f d now count ok₀ k₀ ok k = count - k
+μ-loop d f c ts now count ok₀ k₀ ok k = count - k
 
 add-now : tie.Need-add-now Inv-loop μ-loop
 add-now c = omega arith
@@ -26,8 +26,20 @@ loop-holds : tie.Need-loop-holds Inv-loop μ-loop
 unfolding all
 loop-holds c = (omega arith, omega arith, refl)
 
+cast-at : tie.Need-cast-at Inv-loop μ-loop
+cast-at c = omega arith
+
+mul-s : tie.Need-mul-s Inv-loop μ-loop
+mul-s c = omega arith
+
+element-copy-out-s : tie.Need-element-copy-out-s Inv-loop μ-loop
+element-copy-out-s c = omega arith
+
 is-heard-by-requires : tie.Need-is-heard-by-requires Inv-loop μ-loop
 is-heard-by-requires c κs = omega arith
+
+either-requires : tie.Need-either-requires Inv-loop μ-loop
+either-requires c κs = search needs
 
 both-requires : tie.Need-both-requires Inv-loop μ-loop
 both-requires c κs = search needs
@@ -39,7 +51,7 @@ loop-less : tie.Need-loop-less Inv-loop μ-loop
 loop-less c = omega arith
 
 loop-again : tie.Need-loop-again Inv-loop μ-loop
-loop-again c = (omega arith, omega arith, all-more _ _ _ _ _ (c .before .is-heard-by .ensures) (c .before .before .before .loop .inv .2) (c .both .ensures))
+loop-again c = (omega arith, omega arith, all-more _ _ _ _ _ (c .before .either .ensures ∙ rw (c .before .before .is-heard-by .ensures)) (c .before .before .before .before .before .before .loop .inv .2) (c .both .ensures))
 
 returns : tie.Need-returns Inv-loop μ-loop
 unfolding inTouch
@@ -53,7 +65,11 @@ is-in-touch-spec =
     μ-loop
     add-now
     loop-holds
+    cast-at
+    mul-s
+    element-copy-out-s
     is-heard-by-requires
+    either-requires
     both-requires
     add-k
     loop-less

@@ -28,20 +28,20 @@ returns-2 c = let s = c .before .before .before .before .before .before .before 
     c .refused2 .ensures ∙ cleanup-7 (s .args .t1) (s .pre) (s .args .k) (lt-ltb _ _ (c .before .before .before .before .if1 .left)) (not-true _ (c .before .if2 .taken))
 
 clock-of-requires : tie.Need-clock-of-requires
-clock-of-requires c κs = omega (arith, sizes _ (c .before .before .before .before .before .before .pre), time-high _ (c .before .before .before .before .before .before .pre), c .before .before .before .if1 .left)
+clock-of-requires c κs = omega (arith, sizes _ (c .before .before .before .before .before .before .before .pre), time-high _ (c .before .before .before .before .before .before .before .pre), c .before .before .before .before .if1 .left)
 
 clean-up-requires : tie.Need-clean-up-requires
-clean-up-requires c κs = sizes _ (c .before .before .before .before .before .before .before .pre)
+clean-up-requires c κs = sizes _ (c .before .before .before .before .before .before .before .before .pre)
 
 server-acts-requires : tie.Need-server-acts-requires
-server-acts-requires c κs = omega (arith, sizes _ (c .before .before .before .before .before .before .before .before .pre), waiting-high _ (c .before .before .before .before .before .before .before .before .pre), c .before .before .before .before .before .if1 .left, cleanup-sends _ _ _ _ (c .clean-up .ensures))
+server-acts-requires c κs = omega (arith, sizes _ (c .before .before .before .before .before .before .before .before .before .pre), waiting-high _ (c .before .before .before .before .before .before .before .before .before .pre), c .before .before .before .before .before .before .if1 .left, cleanup-sends _ _ _ _ (c .clean-up .ensures))
 
 unless-full-requires : tie.Need-unless-full-requires
 unless-full-requires c κs = search needs
 
 returns-3 : tie.Need-returns-3
-returns-3 c = let s = c .before .before .before .before .before .before .before .before .before .before in
-    cleanup-last (s .args .t1) (s .pre) (s .args .k) (lt-ltb _ _ (c .before .before .before .before .before .before .before .if1 .left)) (not-false _ (c .before .before .before .before .if2 .left)) _ _ (c .unless-full .ensures)
+returns-3 c = let s = c .before .before .before .before .before .before .before .before .before .before .before in
+    cleanup-last (s .args .t1) (s .pre) (s .args .k) (lt-ltb _ _ (c .before .before .before .before .before .before .before .before .if1 .left)) (not-false _ (c .before .before .before .before .before .if2 .left)) _ _ (c .unless-full .ensures)
     (cleanup-is _ _ _ _ _ (c .before .before .before .clock-of .ensures) (c .before .before .clean-up .ensures) (c .before .server-acts .ensures))
 
 pub cleanup-step-spec : {M : Type 1} → statement M

@@ -3,7 +3,7 @@ use native.Mathlib.Omega.{arith}
 use borrow.Author.Needs.{needs}
 use borrow.Author.Tests.{not-true, not-false}
 use Rattle.answers.proofs.Laws.{holds, fails, sizes, time-high, waiting-high, reading-high}
-use Rattle.facade.proofs.Laws.{notice-fields, notice-names, named, notice-effect, notice-sends, notice-5, notice-6, notice-7, notice-11, notice-last}
+use Rattle.facade.proofs.Laws.{notice-fields, notice-names, named, notice-credible, notice-effect, notice-sends, notice-5, notice-6, notice-7, notice-11, notice-last}
 use Rattle.facade.proofs.notice_step.Statement.{statement}
 use Rattle.facade.proofs.notice_step.Tie as tie
 
@@ -68,13 +68,22 @@ returns-3 c =
     let e₆ = holds (notice-names f (x .first) (x .second) (x .third) (t₂ .before .both2 .ensures) (t₂ .before .before .both .ensures)) (t₂ .if2 .left) in
     c .refused3 .ensures ∙ notice-7 f (s .pre .0) (x .first) (x .second) (x .third) e₅ e₆ (not-true _ (t₃ .if3 .taken))
 
-is-credible-notice-requires : tie.Need-is-credible-notice-requires
-is-credible-notice-requires c κs =
+cast-about : tie.Need-cast-about
+cast-about c = search needs
+
+mul-other : tie.Need-mul-other
+mul-other c = search needs
+
+element-copy-out-other : tie.Need-element-copy-out-other
+element-copy-out-other c =
     let t₂ = c .before .before .before in
     let s = t₂ .before .before .before .before .before .before .before .before in
     let f = s .args .t1 in
     let b = named f (s .pre .0) _ _ (t₂ .before .both2 .ensures) (t₂ .before .before .both .ensures) (t₂ .if2 .left) in
     b .about-low
+
+is-credible-notice-requires : tie.Need-is-credible-notice-requires
+is-credible-notice-requires c κs = search needs
 
 refused-requires-4 : tie.Need-refused-requires-4
 refused-requires-4 c κs = search needs
@@ -82,7 +91,7 @@ refused-requires-4 c κs = search needs
 returns-4 : tie.Need-returns-4
 returns-4 c =
     let t₄ = c .before in
-    let t₃ = t₄ .before .before in
+    let t₃ = t₄ .before .before .before in
     let t₂ = t₃ .before .before .before in
     let t₁ = t₂ .before .before .before .before .before in
     let s = t₁ .before .before .before in
@@ -91,33 +100,43 @@ returns-4 c =
     let e₅ = holds (notice-fields x (s .pre .1) (t₁ .before .fields-in-range .ensures)) (t₁ .if1 .left) in
     let e₆ = holds (notice-names f (x .first) (x .second) (x .third) (t₂ .before .both2 .ensures) (t₂ .before .before .both .ensures)) (t₂ .if2 .left) in
     let e₇ = not-false _ (t₃ .if3 .left) in
-    c .refused4 .ensures ∙ notice-11 f (s .pre .0) (x .first) (x .second) (x .third) e₅ e₆ e₇ (fails (t₄ .before .is-credible-notice .ensures) (t₄ .if4 .taken))
+    c .refused4 .ensures ∙ notice-11 f (s .pre .0) (x .first) (x .second) (x .third) e₅ e₆ e₇ (fails (notice-credible f (x .second) (x .third) (t₄ .before .is-credible-notice .ensures)) (t₄ .if4 .taken))
 
-mul-about : tie.Need-mul-about
-mul-about c =
-    let t₂ = c .before .before .before .before .before in
+mul-place : tie.Need-mul-place
+mul-place c =
+    let t₂ = c .before .before .before .before .before .before in
     let s = t₂ .before .before .before .before .before .before .before .before in
     let f = s .args .t1 in
     let b = named f (s .pre .0) _ _ (t₂ .before .both2 .ensures) (t₂ .before .before .both .ensures) (t₂ .if2 .left) in
     omega (arith, b)
 
-add-about : tie.Need-add-about
-add-about c =
-    let t₂ = c .before .before .before .before .before in
+add-place : tie.Need-add-place
+add-place c =
+    let t₂ = c .before .before .before .before .before .before in
     let s = t₂ .before .before .before .before .before .before .before .before in
     let f = s .args .t1 in
     let b = named f (s .pre .0) _ _ (t₂ .before .both2 .ensures) (t₂ .before .before .both .ensures) (t₂ .if2 .left) in
     omega (arith, b)
 
-cast-about : tie.Need-cast-about
-cast-about c = search needs
+cast-place : tie.Need-cast-place
+cast-place c =
+    let t₂ = c .before .before .before .before .before .before in
+    let s = t₂ .before .before .before .before .before .before .before .before in
+    let f = s .args .t1 in
+    let b = named f (s .pre .0) _ _ (t₂ .before .both2 .ensures) (t₂ .before .before .both .ensures) (t₂ .if2 .left) in
+    omega (arith, b)
 
 mul-g : tie.Need-mul-g
-mul-g c = search needs
+mul-g c =
+    let t₂ = c .before .before .before .before .before .before in
+    let s = t₂ .before .before .before .before .before .before .before .before in
+    let f = s .args .t1 in
+    let b = named f (s .pre .0) _ _ (t₂ .before .both2 .ensures) (t₂ .before .before .both .ensures) (t₂ .if2 .left) in
+    omega (arith, b)
 
 element-write-g : tie.Need-element-write-g
 element-write-g c =
-    let t₂ = c .before .before .before .before .before in
+    let t₂ = c .before .before .before .before .before .before in
     let s = t₂ .before .before .before .before .before .before .before .before in
     let f = s .args .t1 in
     let b = named f (s .pre .0) _ _ (t₂ .before .both2 .ensures) (t₂ .before .before .both .ensures) (t₂ .if2 .left) in
@@ -125,7 +144,7 @@ element-write-g c =
 
 clock-of-requires : tie.Need-clock-of-requires
 clock-of-requires c κs =
-    let t₂ = c .before .before .before .before .before in
+    let t₂ = c .before .before .before .before .before .before .before in
     let s = t₂ .before .before .before .before .before .before .before .before in
     let f = s .args .t1 in
     let b = named f (s .pre .0) _ _ (t₂ .before .both2 .ensures) (t₂ .before .before .both .ensures) (t₂ .if2 .left) in
@@ -133,7 +152,7 @@ clock-of-requires c κs =
 
 notice-requires : tie.Need-notice-requires
 notice-requires c κs =
-    let t₂ = c .before .before .before .before .before .before in
+    let t₂ = c .before .before .before .before .before .before .before .before in
     let s = t₂ .before .before .before .before .before .before .before .before in
     let f = s .args .t1 in
     let b = named f (s .pre .0) _ _ (t₂ .before .both2 .ensures) (t₂ .before .before .both .ensures) (t₂ .if2 .left) in
@@ -141,7 +160,7 @@ notice-requires c κs =
 
 server-acts-requires : tie.Need-server-acts-requires
 server-acts-requires c κs =
-    let t₂ = c .before .before .before .before .before .before .before in
+    let t₂ = c .before .before .before .before .before .before .before .before .before in
     let s = t₂ .before .before .before .before .before .before .before .before in
     let f = s .args .t1 in
     let b = named f (s .pre .0) _ _ (t₂ .before .both2 .ensures) (t₂ .before .before .both .ensures) (t₂ .if2 .left) in
@@ -152,8 +171,8 @@ unless-full-requires c κs = search needs
 
 returns-5 : tie.Need-returns-5
 returns-5 c =
-    let t₄ = c .before .before .before .before in
-    let t₃ = t₄ .before .before in
+    let t₄ = c .before .before .before .before .before in
+    let t₃ = t₄ .before .before .before in
     let t₂ = t₃ .before .before .before in
     let t₁ = t₂ .before .before .before .before .before in
     let s = t₁ .before .before .before in
@@ -162,7 +181,7 @@ returns-5 c =
     let e₅ = holds (notice-fields x (s .pre .1) (t₁ .before .fields-in-range .ensures)) (t₁ .if1 .left) in
     let e₆ = holds (notice-names f (x .first) (x .second) (x .third) (t₂ .before .both2 .ensures) (t₂ .before .before .both .ensures)) (t₂ .if2 .left) in
     let e₇ = not-false _ (t₃ .if3 .left) in
-    let e₁₁ = holds (t₄ .before .is-credible-notice .ensures) (t₄ .if4 .left) in
+    let e₁₁ = holds (notice-credible f (x .second) (x .third) (t₄ .before .is-credible-notice .ensures)) (t₄ .if4 .left) in
     let by = notice-effect f _ _ _ (c .before .before .before .clock-of .ensures) (c .before .before .notice .ensures) (c .before .server-acts .ensures) in
     notice-last f (s .pre .0) (x .first) (x .second) (x .third) e₅ e₆ e₇ e₁₁ _ _ (c .unless-full .ensures) by
 
@@ -182,12 +201,15 @@ notice-step-spec =
     element-copy-out-own
     refused-requires-3
     returns-3
+    cast-about
+    mul-other
+    element-copy-out-other
     is-credible-notice-requires
     refused-requires-4
     returns-4
-    mul-about
-    add-about
-    cast-about
+    mul-place
+    add-place
+    cast-place
     mul-g
     element-write-g
     clock-of-requires

@@ -28,19 +28,19 @@ returns-2 c = let s = c .before .before .before .before in
     c .refused2 .ensures ∙ return-7 (s .args .t1) (s .pre) (s .args .k) (lt-ltb _ _ (c .before .before .before .if1 .left)) (c .before .if2 .taken)
 
 clock-of-requires : tie.Need-clock-of-requires
-clock-of-requires c κs = omega (arith, sizes _ (c .before .before .before .pre), time-high _ (c .before .before .before .pre))
+clock-of-requires c κs = omega (arith, sizes _ (c .before .before .before .before .pre), time-high _ (c .before .before .before .before .pre))
 
 come-back-requires : tie.Need-come-back-requires
 come-back-requires c κs = search needs
 
 row-now-requires : tie.Need-row-now-requires
-row-now-requires c κs = omega (arith, sizes _ (c .before .before .before .before .before .before .before .pre), c .before .before .before .before .before .before .if1 .left)
+row-now-requires c κs = omega (arith, sizes _ (c .before .before .before .before .before .before .before .before .pre), c .before .before .before .before .before .before .before .if1 .left)
 
 mul-t : tie.Need-mul-t
 mul-t c = search needs
 
 element-set-from-t : tie.Need-element-set-from-t
-element-set-from-t c = omega (arith, sizes _ (c .before .before .before .before .before .before .before .before .pre), c .before .before .before .before .before .before .before .if1 .left)
+element-set-from-t c = omega (arith, sizes _ (c .before .before .before .before .before .before .before .before .before .pre), c .before .before .before .before .before .before .before .before .if1 .left)
 
 accepted-requires : tie.Need-accepted-requires
 accepted-requires c κs = search needs
@@ -49,8 +49,8 @@ unless-full-requires : tie.Need-unless-full-requires
 unless-full-requires c κs = search needs
 
 returns-3 : tie.Need-returns-3
-returns-3 c = let s = c .before .before .before .before .before .before .before .before .before .before in
-    return-last (s .args .t1) (s .pre) (s .args .k) (lt-ltb _ _ (c .before .before .before .before .before .before .before .before .before .if1 .left)) (c .before .before .before .before .before .before .before .if2 .left) _ _ (c .unless-full .ensures)
+returns-3 c = let s = c .before .before .before .before .before .before .before .before .before .before .before in
+    return-last (s .args .t1) (s .pre) (s .args .k) (lt-ltb _ _ (c .before .before .before .before .before .before .before .before .before .before .if1 .left)) (c .before .before .before .before .before .before .before .before .if2 .left) _ _ (c .unless-full .ensures)
     (return-is _ _ _ _ _ _ (c .before .before .before .before .before .before .clock-of .ensures) (c .before .before .before .before .before .come-back .ensures) (c .before .before .row-now .ensures) (c .before .accepted .ensures))
 
 pub return-step-spec : {M : Type 1} → statement M

@@ -1,13 +1,9 @@
-use Rattle.rules.specs.Server.{leadsAfter}
 use borrow.Author.Needs.{needs}
 use Rattle.leading.proofs.leads_after.Statement.{statement}
 use Rattle.leading.proofs.leads_after.Tie as tie
 
 is-first-requires : tie.Need-is-first-requires
 is-first-requires c κs = search needs
-
-cast-due : tie.Need-cast-due
-cast-due c = search needs
 
 mul-due : tie.Need-mul-due
 mul-due c = search needs
@@ -18,14 +14,11 @@ mul-due-2 c = search needs
 add-due : tie.Need-add-due
 add-due c = search needs
 
-cast-due-2 : tie.Need-cast-due-2
-cast-due-2 c = search needs
+cast-due : tie.Need-cast-due
+cast-due c = search needs
 
 add-due-2 : tie.Need-add-due-2
 add-due-2 c = search needs
-
-element-copy-out-either : tie.Need-element-copy-out-either
-element-copy-out-either c = search needs
 
 either-requires : tie.Need-either-requires
 either-requires c κs = search needs
@@ -34,21 +27,18 @@ both-requires : tie.Need-both-requires
 both-requires c κs = search needs
 
 returns : tie.Need-returns
-unfolding leadsAfter
-returns c = rw (← c .before .before .before .before .before .is-first .ensures, ← c .before .either .ensures) (c .both .ensures)
+returns c = rw (← c .before .before .before .before .is-first .ensures, ← c .before .either .ensures) (c .both .ensures)
 
 pub leads-after-spec : {M : Type 1} → statement M
 leads-after-spec =
     tie.close
     (tie.spec
     is-first-requires
-    cast-due
     mul-due
     mul-due-2
     add-due
-    cast-due-2
+    cast-due
     add-due-2
-    element-copy-out-either
     either-requires
     both-requires
     returns)
