@@ -1,11 +1,14 @@
 //! A separately written reference for the rules of document 01: the model of
 //! the facade, the script reader and writer, the rig's run, a readable text
-//! form of scripts, a generator of scripts and a tally of what scripts reach.
+//! form of scripts, a generator of scripts and a tally of what scripts reach,
+//! the flat form of a facade and a generator of facades.
 
 pub mod apply;
 pub mod configuration;
 pub mod demand;
 pub mod facade;
+pub mod facades;
+pub mod flat;
 pub mod generator;
 pub mod handle;
 pub mod message;

@@ -6,6 +6,7 @@ mod damage;
 mod edges;
 mod mischief;
 mod progress;
+mod reached;
 mod setting;
 mod talk;
 mod temper;
@@ -15,6 +16,9 @@ use crate::random::Random;
 use crate::script::LONGEST_SCRIPT;
 use author::Author;
 use temper::Temper;
+
+pub(crate) use edges::edge_lengths;
+pub use reached::reached;
 
 /// What a script is meant to show most.
 #[derive(Clone, Copy, Debug, PartialEq, Eq)]

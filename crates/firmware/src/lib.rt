@@ -1,0 +1,268 @@
+// What the firmware of one server, or of one client, links: the functions of crate `device` on numbers and slices. Nothing is trusted: a list
+// of the wrong length, and one with a number that codes nothing, is refused with 2. A refusal changes nothing behind any reference.
+use arith::both;
+use device::ClientReply;
+use device::ServerReply;
+use flat::client_in;
+use flat::config_in;
+use flat::message_in;
+use flat::server_in;
+use flatten::is_client;
+use flatten::is_message;
+use flatten::is_server;
+use flatten::put_client;
+use flatten::put_outbox;
+use flatten::put_server;
+ghost use mathlib.Core.Bool.{true};
+ghost use mathlib.Core.Path.{_≡_};
+ghost use lib.ListN.{length};
+ghost use Rattle.firmware.specs.Firmware.{leaves, serverLeft, codesServer, messageLeft, noticeLeft, returnLeft, cleanupLeft, clientLeft, codesClient, replyLeft, discoverLeft, requestLeft, renewLeft, lapseLeft};
+
+// Whether the lists code a configuration and a server, with room for what is sent.
+fn codes_server(config: &[u32], server: &[u32], sent: &[u32]) -> bool
+    ensures { λ r. ⌜ r ≡ codesServer (now (config .entry)) (now (server .entry)) (now (sent .entry)) ⌝ }
+{
+    both(config.len() == 7, both(sent.len() == 29, is_server(server)))
+}
+
+// The reply of a server: put where it is not refused.
+fn put_server_reply(x: ServerReply, server: &mut [u32], sent: &mut [u32], outcome: &mut u32) -> u32
+    requires { ⌜ length (now server) ≡ 423 ⌝ }
+    requires { ⌜ length (now sent) ≡ 29 ⌝ }
+    ensures { λ n. ⌜ leaves n (now (server .exit)) (now (sent .exit)) (now (outcome .exit)) ≡ serverLeft true x (now (server .entry)) (now (sent .entry)) (now (outcome .entry)) ⌝ }
+{
+    if x.refusal != 0 {
+        return x.refusal;
+    }
+    let answer = x.answer;
+    let after = answer.server;
+    let messages = answer.outbox;
+    put_server(server, 0, after);
+    put_outbox(sent, 0, messages);
+    *outcome = answer.outcome;
+    0
+}
+
+// A message comes to the server.
+#[no_mangle]
+pub extern "C" fn hoyllaqe_receive_message(
+    config: &[u32],
+    number: u32,
+    reading: u32,
+    server: &mut [u32],
+    message: &[u32],
+    sent: &mut [u32],
+    outcome: &mut u32,
+) -> u32
+    ensures { λ n. ⌜ leaves n (now (server .exit)) (now (sent .exit)) (now (outcome .exit)) ≡ messageLeft (now (config .entry)) number reading (now (server .entry)) (now (message .entry)) (now (sent .entry)) (now (outcome .entry)) ⌝ }
+{
+    if !both(codes_server(config, server, sent), is_message(message)) {
+        return 2;
+    }
+    let c = config_in(config, 0);
+    let s = server_in(server, 0);
+    let m = message_in(message, 0);
+    let x = device::receive_message(c, number, reading, s, m);
+    put_server_reply(x, server, sent, outcome)
+}
+
+// A notice: server `about` is dead (0) or alive (1).
+#[no_mangle]
+pub extern "C" fn hoyllaqe_take_notice(
+    config: &[u32],
+    number: u32,
+    reading: u32,
+    server: &mut [u32],
+    about: u32,
+    says: u32,
+    sent: &mut [u32],
+    outcome: &mut u32,
+) -> u32
+    ensures { λ n. ⌜ leaves n (now (server .exit)) (now (sent .exit)) (now (outcome .exit)) ≡ noticeLeft (now (config .entry)) number reading (now (server .entry)) about says (now (sent .entry)) (now (outcome .entry)) ⌝ }
+{
+    if !codes_server(config, server, sent) {
+        return 2;
+    }
+    let c = config_in(config, 0);
+    let s = server_in(server, 0);
+    let x = device::take_notice(c, number, reading, s, about, says);
+    put_server_reply(x, server, sent, outcome)
+}
+
+// The server comes back after a failure.
+#[no_mangle]
+pub extern "C" fn hoyllaqe_come_back(
+    config: &[u32],
+    number: u32,
+    reading: u32,
+    server: &mut [u32],
+    sent: &mut [u32],
+    outcome: &mut u32,
+) -> u32
+    ensures { λ n. ⌜ leaves n (now (server .exit)) (now (sent .exit)) (now (outcome .exit)) ≡ returnLeft (now (config .entry)) number reading (now (server .entry)) (now (sent .entry)) (now (outcome .entry)) ⌝ }
+{
+    if !codes_server(config, server, sent) {
+        return 2;
+    }
+    let c = config_in(config, 0);
+    let s = server_in(server, 0);
+    let x = device::come_back(c, number, reading, s);
+    put_server_reply(x, server, sent, outcome)
+}
+
+// Old reservations are dropped.
+#[no_mangle]
+pub extern "C" fn hoyllaqe_clean_up(
+    config: &[u32],
+    number: u32,
+    reading: u32,
+    server: &mut [u32],
+    sent: &mut [u32],
+    outcome: &mut u32,
+) -> u32
+    ensures { λ n. ⌜ leaves n (now (server .exit)) (now (sent .exit)) (now (outcome .exit)) ≡ cleanupLeft (now (config .entry)) number reading (now (server .entry)) (now (sent .entry)) (now (outcome .entry)) ⌝ }
+{
+    if !codes_server(config, server, sent) {
+        return 2;
+    }
+    let c = config_in(config, 0);
+    let s = server_in(server, 0);
+    let x = device::clean_up(c, number, reading, s);
+    put_server_reply(x, server, sent, outcome)
+}
+
+// Whether the lists code a configuration and a client, with room for what is sent.
+fn codes_client(config: &[u32], client: &[u32], sent: &[u32]) -> bool
+    ensures { λ r. ⌜ r ≡ codesClient (now (config .entry)) (now (client .entry)) (now (sent .entry)) ⌝ }
+{
+    both(config.len() == 7, both(sent.len() == 29, is_client(client)))
+}
+
+// The reply of a client: put where it is not refused.
+fn put_client_reply(z: ClientReply, client: &mut [u32], sent: &mut [u32], outcome: &mut u32) -> u32
+    requires { ⌜ length (now client) ≡ 4 ⌝ }
+    requires { ⌜ length (now sent) ≡ 29 ⌝ }
+    ensures { λ n. ⌜ leaves n (now (client .exit)) (now (sent .exit)) (now (outcome .exit)) ≡ clientLeft true z (now (client .entry)) (now (sent .entry)) (now (outcome .entry)) ⌝ }
+{
+    if z.refusal != 0 {
+        return z.refusal;
+    }
+    let answer = z.answer;
+    let after = answer.client;
+    let messages = answer.outbox;
+    put_client(client, 0, after);
+    put_outbox(sent, 0, messages);
+    *outcome = answer.outcome;
+    0
+}
+
+// A message comes to the client.
+#[no_mangle]
+pub extern "C" fn hoyllaqe_receive_reply(
+    config: &[u32],
+    number: u32,
+    reading: u32,
+    client: &mut [u32],
+    message: &[u32],
+    sent: &mut [u32],
+    outcome: &mut u32,
+) -> u32
+    ensures { λ n. ⌜ leaves n (now (client .exit)) (now (sent .exit)) (now (outcome .exit)) ≡ replyLeft (now (config .entry)) number reading (now (client .entry)) (now (message .entry)) (now (sent .entry)) (now (outcome .entry)) ⌝ }
+{
+    if !both(codes_client(config, client, sent), is_message(message)) {
+        return 2;
+    }
+    let c = config_in(config, 0);
+    let y = client_in(client, 0);
+    let m = message_in(message, 0);
+    let z = device::receive_reply(c, number, reading, y, m);
+    put_client_reply(z, client, sent, outcome)
+}
+
+// A discover with a new interaction.
+#[no_mangle]
+pub extern "C" fn hoyllaqe_discover(
+    config: &[u32],
+    number: u32,
+    reading: u32,
+    client: &mut [u32],
+    interaction: u32,
+    sent: &mut [u32],
+    outcome: &mut u32,
+) -> u32
+    ensures { λ n. ⌜ leaves n (now (client .exit)) (now (sent .exit)) (now (outcome .exit)) ≡ discoverLeft (now (config .entry)) number reading (now (client .entry)) interaction (now (sent .entry)) (now (outcome .entry)) ⌝ }
+{
+    if !codes_client(config, client, sent) {
+        return 2;
+    }
+    let c = config_in(config, 0);
+    let y = client_in(client, 0);
+    let z = device::discover(c, number, reading, y, interaction);
+    put_client_reply(z, client, sent, outcome)
+}
+
+// A request with the wanted end.
+#[no_mangle]
+pub extern "C" fn hoyllaqe_request(
+    config: &[u32],
+    number: u32,
+    reading: u32,
+    client: &mut [u32],
+    wanted: u32,
+    sent: &mut [u32],
+    outcome: &mut u32,
+) -> u32
+    ensures { λ n. ⌜ leaves n (now (client .exit)) (now (sent .exit)) (now (outcome .exit)) ≡ requestLeft (now (config .entry)) number reading (now (client .entry)) wanted (now (sent .entry)) (now (outcome .entry)) ⌝ }
+{
+    if !codes_client(config, client, sent) {
+        return 2;
+    }
+    let c = config_in(config, 0);
+    let y = client_in(client, 0);
+    let z = device::request(c, number, reading, y, wanted);
+    put_client_reply(z, client, sent, outcome)
+}
+
+// A renewal with the wanted end and a new interaction.
+#[no_mangle]
+pub extern "C" fn hoyllaqe_renew(
+    config: &[u32],
+    number: u32,
+    reading: u32,
+    client: &mut [u32],
+    wanted: u32,
+    interaction: u32,
+    sent: &mut [u32],
+    outcome: &mut u32,
+) -> u32
+    ensures { λ n. ⌜ leaves n (now (client .exit)) (now (sent .exit)) (now (outcome .exit)) ≡ renewLeft (now (config .entry)) number reading (now (client .entry)) wanted interaction (now (sent .entry)) (now (outcome .entry)) ⌝ }
+{
+    if !codes_client(config, client, sent) {
+        return 2;
+    }
+    let c = config_in(config, 0);
+    let y = client_in(client, 0);
+    let z = device::renew(c, number, reading, y, wanted, interaction);
+    put_client_reply(z, client, sent, outcome)
+}
+
+// Time passes: a hold whose end is not above the clock is over.
+#[no_mangle]
+pub extern "C" fn hoyllaqe_pass_time(
+    config: &[u32],
+    number: u32,
+    reading: u32,
+    client: &mut [u32],
+    sent: &mut [u32],
+    outcome: &mut u32,
+) -> u32
+    ensures { λ n. ⌜ leaves n (now (client .exit)) (now (sent .exit)) (now (outcome .exit)) ≡ lapseLeft (now (config .entry)) number reading (now (client .entry)) (now (sent .entry)) (now (outcome .entry)) ⌝ }
+{
+    if !codes_client(config, client, sent) {
+        return 2;
+    }
+    let c = config_in(config, 0);
+    let y = client_in(client, 0);
+    let z = device::pass_time(c, number, reading, y);
+    put_client_reply(z, client, sent, outcome)
+}
