@@ -2,10 +2,11 @@
  * The proved libraries, for C. A program that has whole facades links target/staticlib/libexport.a, the firmware of one server or one client
  * target/staticlib/libfirmware.a.
  *
- * A list of numbers or bytes is a pointer and a length, which counts numbers or bytes. Lists that are passed to one call do not overlap.
+ * A list of numbers or bytes is a pointer and a length, which counts numbers or bytes. No pointer is NULL, numbers are aligned, and what the pointers
+ * of one call point to does not overlap. The libraries are for x86-64 and need memcpy and memset.
  *
- * Every function but hoyllaqe_run returns the refusal of document 01, 0 for none. A list of the wrong length, and a number that codes nothing, is
- * refused with 2. A refusal changes nothing behind any pointer.
+ * Every function but hoyllaqe_run returns the refusal of document 01, 0 for none. A list of the wrong length, and a number that codes nothing, in an
+ * unused place too, is refused with 2; 0 is right in every unused place. A refusal changes nothing behind any pointer.
  *
  * docs/FLAT-FORM.md has the layout of a facade, a server, a client and a message, number by number.
  */
@@ -27,14 +28,15 @@ enum {
     HOYLLAQE_MESSAGE = 7,    /* numbers of a message */
     HOYLLAQE_OUTBOX = 29,    /* how many messages are sent, and room for four */
     HOYLLAQE_STEP = 4,       /* numbers of a step: its kind and three fields */
-    HOYLLAQE_SCRIPT = 65536, /* bytes of the longest script */
+    HOYLLAQE_SCRIPT = 65536, /* the most bytes that a script may have */
     HOYLLAQE_OUTPUT = 2097152 /* bytes that hold the output of any script */
 };
 
 /* The fresh facade of a configuration. */
 uint32_t hoyllaqe_fresh(const uint32_t *config, size_t config_length, uint32_t *facade, size_t facade_length);
 
-/* A step: the facade becomes the next one. Of a step with fewer than three fields the others are not looked at. */
+/* A step: the facade becomes the next one, and outcome is 0, 1 (a condition is not met) or 2 (a dead receiver). Fields are in the order of document
+ * 01, e in two's complement. Of a step with fewer than three fields the others are not looked at. */
 uint32_t hoyllaqe_step(uint32_t *facade, size_t facade_length, uint32_t kind, uint32_t first, uint32_t second, uint32_t third, uint32_t *outcome);
 
 /* The first of refusals 1 to 5 that reading the script through meets. */
@@ -50,8 +52,12 @@ size_t hoyllaqe_run(const uint8_t *script, size_t script_length, uint8_t *output
 
 /* One server or one client on its own: these functions are in target/staticlib/libfirmware.a.
  *
- * number is its number, from 0, and reading its clock reading. What is called with a number out of its range is refused with 2. Where nothing is
- * refused, the server or client becomes the next one, sent is what it sends, and outcome the outcome of document 01. */
+ * number is its number among the servers or among the clients, and reading its clock reading. The only refusal is 2: a list that codes nothing, a
+ * number out of its range, a message for another party. Where nothing is refused, the server or client becomes the next one, sent is what it sends, and
+ * outcome is as for a step; what the client's state does not allow has outcome 1.
+ *
+ * A new server is 1, 0, 0, 1, 1, 1, 1 and then 0s, a new client 0s. The firmware keeps the first number of its server, alive, at 1, and calls
+ * hoyllaqe_pass_time whenever its client's clock moves: no other function ends a hold. */
 
 /* A message comes to the server. */
 uint32_t hoyllaqe_receive_message(const uint32_t *config, size_t config_length, uint32_t number, uint32_t reading, uint32_t *server,

@@ -1,5 +1,10 @@
 //! One sealed server or one client on its own, as its firmware has it: numbers
 //! that it keeps, and what it sends. `docs/FLAT-FORM.md` has their layout.
+//!
+//! The only refusal is 2: a list that codes nothing, a number out of its range, a
+//! message for another party. What the client's state does not allow has outcome 1.
+//! The firmware keeps the first number of its server, alive, at 1, and calls
+//! `pass_time` whenever its client's clock moves: no other function ends a hold.
 
 use crate::raw;
 use crate::{accepted, Refusal};
@@ -72,7 +77,7 @@ pub fn take_notice(
     call!(hoyllaqe_take_notice, device, server, about, u32::from(alive))
 }
 
-/// The server comes back after a failure.
+/// The server comes back after a failure. Whether it is alive stays as it was.
 pub fn come_back(device: Device, server: &mut [u32]) -> Result<Done, Refusal> {
     call!(hoyllaqe_come_back, device, server)
 }

@@ -12,7 +12,7 @@ mod raw;
 pub const CONFIGURATION: usize = 7;
 /// How many numbers a facade has.
 pub const FACADE: usize = 2778;
-/// How many bytes the longest script has.
+/// The most bytes that a script may have.
 pub const LONGEST_SCRIPT: usize = 65_536;
 /// How many bytes hold the output of any script.
 pub const MOST_OUTPUT: usize = 2_097_152;

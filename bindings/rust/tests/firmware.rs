@@ -1,6 +1,9 @@
 //! Rows of the paper, by one server or one client on its own: Δ=2, ν=5, μ=50, θ=10.
 
-use hoyllaqe::firmware::{pass_time, receive_message, Device, CLIENT, MESSAGE, SERVER};
+use hoyllaqe::firmware::{
+    clean_up, come_back, discover, pass_time, receive_message, receive_reply, renew, take_notice,
+    Device, Done, CLIENT, MESSAGE, SERVER,
+};
 use hoyllaqe::Refusal;
 
 const CONFIGURATION: [u32; 7] = [2, 1, 1, 2, 5, 50, 10];
@@ -56,6 +59,65 @@ fn p9_a_hold_until_155() {
         let done = pass_time(at(reading), &mut client).unwrap();
         assert_eq!((done.outcome, client), (0, after));
     }
+}
+
+/// The first message that was sent.
+fn first(done: &Done) -> [u32; MESSAGE] {
+    done.sent[1..8].try_into().unwrap()
+}
+
+#[test]
+fn p3_and_p4_a_server_begins_to_lead() {
+    for (reading, leads, record) in [(23, 0, 60), (24, 1, 78)] {
+        let mut server = leader();
+        (server[2], server[LEADS], server[RECORD]) = (10, 0, 60);
+        (server[3], server[4]) = (1, 1);
+        take_notice(at(reading), &mut server, 1, true).unwrap();
+        assert_eq!((server[LEADS], server[RECORD]), (leads, record));
+    }
+}
+
+#[test]
+fn p5_a_renewal_until_250() {
+    let mut client = [4, 0, 200, 1];
+    let done = renew(at(200), &mut client, 100, 2).unwrap();
+    assert_eq!((done.outcome, done.sent[0], client), (0, 2, [4, 0, 200, 2]));
+    let mut server = leader();
+    let done = receive_message(at(200), &mut server, &first(&done)).unwrap();
+    assert_eq!((done.outcome, server[LENT]), (0, 250));
+    let done = receive_reply(at(200), &mut client, &first(&done)).unwrap();
+    assert_eq!((done.outcome, client), (0, [4, 0, 250, 2]));
+}
+
+#[test]
+fn p8_a_reservation_at_30() {
+    const RESERVATION: usize = 103;
+    for (reading, kept) in [(40, [1, 1, 30]), (41, [0, 0, 0])] {
+        let mut server = leader();
+        server[RESERVATION..RESERVATION + 3].copy_from_slice(&[1, 1, 30]);
+        clean_up(at(reading), &mut server).unwrap();
+        assert_eq!(server[RESERVATION..RESERVATION + 3], kept);
+    }
+}
+
+#[test]
+fn a_client_asks_and_takes_an_offer() {
+    let mut client = [0; CLIENT];
+    let done = discover(at(105), &mut client, 1).unwrap();
+    assert_eq!((done.sent[0], client), (2, [1, 1, 0, 0]));
+    let mut server = leader();
+    let done = receive_message(at(105), &mut server, &first(&done)).unwrap();
+    receive_reply(at(105), &mut client, &first(&done)).unwrap();
+    assert_eq!(client, [2, 1, 0, 0]);
+    let done = hoyllaqe::firmware::request(at(105), &mut client, 120).unwrap();
+    assert_eq!((first(&done), client), (request(120), [3, 1, 0, 0]));
+}
+
+#[test]
+fn records_survive_a_return() {
+    let mut server = leader();
+    come_back(at(300), &mut server).unwrap();
+    assert_eq!((server[ALIVE], server[2], server[LEADS], server[RECORD]), (1, 300, 0, 100));
 }
 
 #[test]

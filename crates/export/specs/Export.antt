@@ -1,4 +1,4 @@
--- What programs in other languages are given: each function of the project on lists of numbers. A list of the wrong length, and one
+-- What programs in other languages are given: fresh, step, verdict, writer and run on lists of numbers. A list of the wrong length, and one
 -- with a number that codes nothing, is refused with 2: "A number of a configuration or of a facade handed in is outside its range."
 -- A refusal leaves every list as it was.
 use mathlib.Core.Bool.{Bool, cond}

@@ -226,7 +226,7 @@ facadeIn l = record {
   waiting = numberIn l 9;
 }
 
--- Which lists code something: "Every facade has exactly one flat form, and a list that is no facade's flat form codes nothing."
+-- Which lists code something: "Every facade, its unused places too, has exactly one flat form, and a list that is no facade's flat form codes nothing."
 
 abbrev pub isFacade : List ℕ → Bool
 isFacade = codes facadeNumbers facadeIn 2778

@@ -38,9 +38,14 @@ fn proved(case: &Case) -> Answer {
     let mut facade = case.numbers.clone();
     let [kind, fields @ ..] = case.step;
     match hoyllaqe::step(&mut facade, Step { kind, fields }) {
-        Ok(outcome) => Answer { refusal: 0, outcome: outcome as u8, facade },
-        Err(Refusal(refusal)) => Answer { refusal: refusal as u8, outcome: 0, facade },
+        Ok(outcome) => Answer { refusal: 0, outcome: small(outcome), facade },
+        Err(Refusal(refusal)) => Answer { refusal: small(refusal), outcome: 0, facade },
     }
+}
+
+/// A number too large for the reference's form is one that it never gives.
+fn small(number: u32) -> u8 {
+    u8::try_from(number).unwrap_or(u8::MAX)
 }
 
 fn differing(ours: &Answer, theirs: &Answer) -> String {
