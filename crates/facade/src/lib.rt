@@ -78,7 +78,6 @@ pub fn fresh(c: Config) -> Answer
 }
 
 // Step 1: pass.
-
 fn pass_step(f: Facade, s: Step) -> Answer
     requires { ⌜ T (inRange f) × (s .kind ≡ 1) ⌝ }
     ensures { λ r. ⌜ r ≡ answerTo f (pass (s .first) (s .second) (signed (s .third))) ⌝ }
@@ -128,7 +127,6 @@ fn fail_step(f: Facade, k: u32) -> Answer
 }
 
 // Step 3: return.
-
 fn return_step(f: Facade, k: u32) -> Answer
     requires { ⌜ T (inRange f) ⌝ }
     ensures { λ r. ⌜ r ≡ answerTo f (return k) ⌝ }
@@ -155,7 +153,6 @@ fn return_step(f: Facade, k: u32) -> Answer
 }
 
 // Step 4: notice.
-
 fn notice_step(f: Facade, s: Step) -> Answer
     requires { ⌜ T (inRange f) × (s .kind ≡ 4) ⌝ }
     ensures { λ r. ⌜ r ≡ answerTo f (notice (s .first) (s .second) (s .third)) ⌝ }

@@ -20,7 +20,7 @@ use Rattle.rules.specs.Conditions.{_and_, _or_, within, all}
 use Rattle.rules.specs.Clock.{notNegative}
 use Rattle.rules.specs.Parts.{parties, serverAt, stateAt, messageAt, offsetAt, noticeAt, reservedAt, lentAt, recordAt, writeAt}
 
--- "S servers (2 to 4), C clients (1 to 32) and A addresses (1 to 32); Δ (0 to 1,000), ν (1 to 10,000), μ (1 to 1,000,000), θ (0 to 1,000,000)"
+-- S servers are 2 to 4, C clients 1 to 32, A addresses 1 to 32; Δ is 0 to 1,000, ν 1 to 10,000, μ 1 to 1,000,000, θ 0 to 1,000,000
 unfoldable pub configInRange : Config → Bool
 configInRange c =
     within 2 4 (c .servers)
