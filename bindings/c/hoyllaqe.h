@@ -8,7 +8,7 @@
  * Every function but hoyllaqe_run returns the refusal of document 01, 0 for none. A list of the wrong length, and a number that codes nothing, in an
  * unused place too, is refused with 2; 0 is right in every unused place. A refusal changes nothing behind any pointer.
  *
- * docs/FLAT-FORM.md has the layout of a facade, a server, a client and a message, number by number.
+ * docs/FLAT-FORM.md has the layout of a facade, a server, a client and a message, number by number, and the kinds of steps, refusals and outcomes.
  */
 #ifndef HOYLLAQE_H
 #define HOYLLAQE_H
@@ -56,8 +56,8 @@ size_t hoyllaqe_run(const uint8_t *script, size_t script_length, uint8_t *output
  * number out of its range, a message for another party. Where nothing is refused, the server or client becomes the next one, sent is what it sends, and
  * outcome is as for a step; what the client's state does not allow has outcome 1.
  *
- * A new server is 1, 0, 0, 1, 1, 1, 1 and then 0s, a new client 0s. The firmware keeps the first number of its server, alive, at 1, and calls
- * hoyllaqe_pass_time whenever its client's clock moves: no other function ends a hold. */
+ * A new server is 1, 0, 0, 1, 1, 1, 1 and then 0s, a new client 0s. Only hoyllaqe_receive_message looks at whether a server is alive. The firmware keeps
+ * that first number of its server at 1, and calls hoyllaqe_pass_time whenever its client's clock moves: no other function ends a hold. */
 
 /* A message comes to the server. */
 uint32_t hoyllaqe_receive_message(const uint32_t *config, size_t config_length, uint32_t number, uint32_t reading, uint32_t *server,

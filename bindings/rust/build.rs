@@ -9,6 +9,9 @@ fn main() {
     let folder = Path::new(&here).join("../../target/staticlib");
     println!("cargo:rustc-link-search=native={}", folder.display());
     for library in ["export", "firmware"] {
+        if !folder.join(format!("lib{library}.a")).exists() {
+            println!("cargo:warning=run `rt staticlib {library}` at the top of the repository first");
+        }
         println!("cargo:rustc-link-lib=static={library}");
         println!("cargo:rerun-if-changed={}", folder.join(format!("lib{library}.a")).display());
     }

@@ -98,7 +98,7 @@ fn body_numbers(x: Body) -> Four
     }
 }
 
-pub fn put_message(out: &mut [u32], at: usize, m: Message)
+fn put_message(out: &mut [u32], at: usize, m: Message)
     requires { ⌜ at + 7 ≤ length (now out) ⌝ }
     ensures { λ _. ⌜ now (out .exit) ≡ over (now (out .entry)) at (messageNumbers m) ⌝ }
 {
@@ -133,7 +133,7 @@ fn pending_numbers(x: Pending) -> Three
     }
 }
 
-pub fn put_config(out: &mut [u32], at: usize, c: Config)
+fn put_config(out: &mut [u32], at: usize, c: Config)
     requires { ⌜ at + 7 ≤ length (now out) ⌝ }
     ensures { λ _. ⌜ now (out .exit) ≡ over (now (out .entry)) at (configNumbers c) ⌝ }
 {
