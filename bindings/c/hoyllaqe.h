@@ -29,7 +29,7 @@ enum {
     HOYLLAQE_OUTBOX = 29,    /* how many messages are sent, and room for four */
     HOYLLAQE_STEP = 4,       /* numbers of a step: its kind and three fields */
     HOYLLAQE_SCRIPT = 65536, /* the most bytes that a script may have */
-    HOYLLAQE_OUTPUT = 2097152 /* bytes that hold the output of any script */
+    HOYLLAQE_OUTPUT = 1048576 /* bytes that hold the output of any script */
 };
 
 /* The fresh facade of a configuration. */

@@ -15,7 +15,7 @@ pub const FACADE: usize = 2778;
 /// The most bytes that a script may have.
 pub const LONGEST_SCRIPT: usize = 65_536;
 /// How many bytes hold the output of any script.
-pub const MOST_OUTPUT: usize = 2_097_152;
+pub const MOST_OUTPUT: usize = 1_048_576;
 
 /// The number of the first rule broken.
 #[derive(Clone, Copy, Debug, PartialEq, Eq)]

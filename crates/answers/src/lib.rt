@@ -1,70 +1,91 @@
-// What a step answers: a refusal, or an effect with what a party sends, unless the cable is full.
-use cable::send_all;
-use types::Answer;
+// What a step changes: nothing where it is refused, and else a party and what it sends. Whether the cable is full is tested
+// where a change is put in.
+// w is the world before the step, own the server and y the client at hand. g is the world in which a party acts: w with the
+// time, the next κ and the notice times that the step sets. The message at hand is taken out if `taken`.
+use outbox::nothing;
+use types::Change;
+use types::Client;
 use types::ClientAnswer;
-use types::Facade;
+use types::Server;
 use types::ServerAnswer;
+use types::World;
+use world::rest_of;
 ghost use mathlib.Core.Path.{_≡_};
-ghost use mathlib.Core.Bool.{cond};
-ghost use Prim.Native.Nat.{_≤_, _<_};
-ghost use lib.Dec.{leb};
-ghost use Rattle.rules.specs.Steps.{accepted as acceptedWith, refused as refusedWith, serverActs, clientActs};
+ghost use Prim.Native.Nat.{_≤_};
+ghost use lib.Dec.{T};
+ghost use Rattle.answers.specs.Changes.{withRefusal, quietly, byServer, byClient};
 
-// A refused step returns the facade it was given.
-pub fn refused(f: Facade, n: u32) -> Answer
-    ensures { λ r. ⌜ r ≡ refusedWith f n ⌝ }
+// A refused step changes nothing.
+pub fn refused(w: World, own: Server, y: Client, n: u32) -> Change
+    ensures { λ r. ⌜ r ≡ withRefusal w own y n ⌝ }
 {
-    Answer {
+    let none = nothing();
+    Change {
         refusal: n,
         outcome: 0,
-        facade: f,
+        world: w,
+        server: own,
+        client: y,
+        taken: false,
+        outbox: none,
     }
 }
 
-pub fn accepted(f: Facade, n: u32) -> Answer
-    ensures { λ r. ⌜ r ≡ acceptedWith f n ⌝ }
+// Nothing is sent, and the outcome is 0. The server at hand is t.
+pub fn accepted(g: World, t: Server, y: Client, taken: bool) -> Change
+    requires { ⌜ (T taken → 1 ≤ g .waiting) ⌝ }
+    ensures { λ r. ⌜ r ≡ quietly g t y taken ⌝ }
 {
-    Answer {
+    let none = nothing();
+    let mut h = g;
+    h.waiting = rest_of(g.waiting, taken);
+    Change {
         refusal: 0,
-        outcome: n,
-        facade: f,
+        outcome: 0,
+        world: h,
+        server: t,
+        client: y,
+        taken: taken,
+        outbox: none,
     }
 }
 
-// Refusal 13, the last: the answer x, unless more than 128 messages would wait.
-pub fn unless_full(f: Facade, x: Answer) -> Answer
-    ensures { λ r. ⌜ r ≡ cond (leb (x .facade .waiting) 128) x (refusedWith f 13) ⌝ }
+// The server at hand is as it answered, and what it sends waits.
+pub fn server_acts(y: Client, g: World, taken: bool, x: ServerAnswer) -> Change
+    requires { ⌜ (g .waiting ≤ 128) × (x .outbox .count ≤ 4) × (T taken → 1 ≤ g .waiting) ⌝ }
+    ensures { λ r. ⌜ r ≡ byServer g y taken x ⌝ }
 {
-    if x.facade.waiting <= 128 {
-        return x;
+    let t = x.server;
+    let sent = x.outbox;
+    let mut h = g;
+    h.waiting = rest_of(g.waiting, taken) + sent.count;
+    Change {
+        refusal: 0,
+        outcome: x.outcome,
+        world: h,
+        server: t,
+        client: y,
+        taken: taken,
+        outbox: sent,
     }
-    refused(f, 13)
 }
 
-// Server k is as it answered, and what it sends waits.
-pub fn server_acts(f: Facade, k: u32, x: ServerAnswer) -> Answer
-    requires { ⌜ (k < 4) × (f .waiting ≤ 128) × (x .outbox .count ≤ 4) ⌝ }
-    ensures { λ r. ⌜ r ≡ serverActs f k x ⌝ }
+// The same of the client at hand.
+pub fn client_acts(own: Server, g: World, taken: bool, x: ClientAnswer) -> Change
+    requires { ⌜ (g .waiting ≤ 128) × (x .outbox .count ≤ 4) × (T taken → 1 ≤ g .waiting) ⌝ }
+    ensures { λ r. ⌜ r ≡ byClient g own taken x ⌝ }
 {
-    let at = k as usize;
-    let s = x.server;
-    let mut g = f;
-    g.servers[at] = s;
+    let z = x.client;
     let sent = x.outbox;
-    let after = send_all(g, sent);
-    accepted(after, x.outcome)
-}
-
-// The same of client i.
-pub fn client_acts(f: Facade, i: u32, x: ClientAnswer) -> Answer
-    requires { ⌜ (i < 32) × (f .waiting ≤ 128) × (x .outbox .count ≤ 4) ⌝ }
-    ensures { λ r. ⌜ r ≡ clientActs f i x ⌝ }
-{
-    let at = i as usize;
-    let y = x.client;
-    let mut g = f;
-    g.clients[at] = y;
-    let sent = x.outbox;
-    let h = send_all(g, sent);
-    accepted(h, x.outcome)
+    let mut h = g;
+    h.waiting = rest_of(g.waiting, taken) + sent.count;
+    Change {
+        refusal: 0,
+        outcome: x.outcome,
+        world: h,
+        server: own,
+        client: z,
+        taken: taken,
+        outbox: sent,
+    }
 }

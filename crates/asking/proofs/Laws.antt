@@ -1,14 +1,17 @@
 -- What a client's step answers, by its tests, with the tests that the kind passes anyway left out.
-use mathlib.Core.Path.{_≡_, refl, ap, _∙_}
+use mathlib.Core.Path.{_≡_, refl, sym, ap, _∙_}
 use mathlib.Core.Bool.{Bool, true, false, not}
 use Prim.Native.Nat.{ℕ, _+_, _≤_, _<_}
 use native.Mathlib.Omega.{arith}
 use lib.Dec.{T, leb, ltb}
+use lib.ListN.{getD}
 use Rattle.types.specs.declared.Step.{Step}
 use Rattle.types.specs.declared.Facade.{Facade}
+use Rattle.types.specs.declared.State.{State}
+use Rattle.types.specs.declared.Client.{Client}
 use Rattle.types.specs.declared.Answer.{Answer}
 use Rattle.types.specs.declared.ClientAnswer.{ClientAnswer}
-use Rattle.rules.specs.Parts.{stateAt, withNext}
+use Rattle.rules.specs.Parts.{noClient, stateAt, withNext}
 use Rattle.rules.specs.Ranges.{inRange}
 use Rattle.rules.specs.Client.{isOffered, isHolding, discovers, requests, renews}
 use Rattle.rules.specs.Steps.{discover, request, renew, isKnown, fieldsInRange, exists, stateAllows, ofPass, ofNotice, interactionLeft, refused, effect, action, answerTo, clientActs}
@@ -17,6 +20,10 @@ use Rattle.rules.proofs.Kept.{Configured}
 use Rattle.rules.proofs.Actions.{action-request, action-renew}
 use Rattle.rules.proofs.Refusals.{refused-5, refused-6, refused-7, refused-12, unless-full}
 use Rattle.answers.proofs.Laws.{Last, last, sizes, waiting-high}
+
+-- what a test says of the client y it says of the one at i
+of-client : (f : Facade) (i : ℕ) (y : Client) → getD (f .clients) i noClient ≡ y → (p : State → Bool) {b : Bool} → p (y .state) ≡ b → p (stateAt f i) ≡ b
+of-client f i y at p e = ap (λ (z : Client). p (z .state)) at ∙ e
 
 module _ (f : Facade) (t : T (inRange f)) where
   e₂ : inRange f ≡ true
@@ -27,19 +34,22 @@ module _ (f : Facade) (t : T (inRange f)) where
     unfolding isKnown fieldsInRange exists
     discover-6 e = refused-6 f (discover i) e₂ refl refl e
 
-    module _ (e₆ : ltb i (f .config .clients) ≡ true) where
-      pub discover-7 : isHolding (stateAt f i) ≡ true → refused f 7 ≡ answerTo f (discover i)
+    -- client i is y
+    module _ (e₆ : ltb i (f .config .clients) ≡ true) (y : Client) (at : getD (f .clients) i noClient ≡ y) where
+      pub discover-7 : isHolding (y .state) ≡ true → refused f 7 ≡ answerTo f (discover i)
       unfolding isKnown fieldsInRange exists stateAllows
-      discover-7 e = refused-7 f (discover i) e₂ refl refl e₆ (ap not e)
+      discover-7 e = refused-7 f (discover i) e₂ refl refl e₆ (ap not (of-client f i y at isHolding e))
 
-      module _ (e₇ : isHolding (stateAt f i) ≡ false) where
+      module _ (e₇ : isHolding (y .state) ≡ false) where
         pub discover-12 : leb (f .next) 1000000 ≡ false → refused f 12 ≡ answerTo f (discover i)
         unfolding isKnown fieldsInRange exists stateAllows ofPass ofNotice interactionLeft
-        discover-12 e = refused-12 f (discover i) e₂ refl refl e₆ (ap not e₇) refl refl refl refl e
+        discover-12 e = refused-12 f (discover i) e₂ refl refl e₆ (ap not (of-client f i y at isHolding e₇)) refl refl refl refl e
 
-        pub discover-last : leb (f .next) 1000000 ≡ true → (r : Answer) → Last f (discover i) r
-        unfolding isKnown fieldsInRange exists stateAllows ofPass ofNotice interactionLeft
-        discover-last e r = last f (discover i) r (unless-full f (discover i) e₂ refl refl e₆ (ap not e₇) refl refl refl refl e)
+        pub discover-last : leb (f .next) 1000000 ≡ true → (x : ClientAnswer) → x ≡ discovers (f .config) i (y .state) (f .next)
+            → Last f (discover i) (clientActs (withNext f (f .next + 1)) i x)
+        unfolding isKnown fieldsInRange exists stateAllows ofPass ofNotice interactionLeft effect
+        discover-last e x q = last f (discover i) _ (unless-full f (discover i) e₂ refl refl e₆ (ap not (of-client f i y at isHolding e₇)) refl refl refl refl e)
+            (ap (clientActs (withNext f (f .next + 1)) i) (q ∙ ap (λ (z : Client). discovers (f .config) i (z .state) (f .next)) (sym at)))
 
     module _ (w : ℕ) where
       pub request-5 : fieldsInRange (request i w) ≡ false → refused f 5 ≡ answerTo f (request i w)
@@ -55,59 +65,37 @@ module _ (f : Facade) (t : T (inRange f)) where
         unfolding isKnown exists
         request-6 e = refused-6 f (request i w) e₂ refl e₅ e
 
-        module _ (e₆ : ltb i (f .config .clients) ≡ true) where
-          pub request-7 : isOffered (stateAt f i) ≡ false → refused f 7 ≡ answerTo f (request i w)
+        module _ (e₆ : ltb i (f .config .clients) ≡ true) (y : Client) (at : getD (f .clients) i noClient ≡ y) where
+          pub request-7 : isOffered (y .state) ≡ false → refused f 7 ≡ answerTo f (request i w)
           unfolding isKnown exists stateAllows
-          request-7 e = refused-7 f (request i w) e₂ refl e₅ e₆ e
+          request-7 e = refused-7 f (request i w) e₂ refl e₅ e₆ (of-client f i y at isOffered e)
 
-          pub request-last : isOffered (stateAt f i) ≡ true → (r : Answer) → Last f (request i w) r
-          unfolding isKnown exists stateAllows ofPass ofNotice interactionLeft
-          request-last e r = last f (request i w) r (unless-full f (request i w) e₂ refl e₅ e₆ e refl refl refl refl refl)
+          pub request-last : isOffered (y .state) ≡ true → (x : ClientAnswer) → x ≡ requests (f .config) i (y .state) w
+              → Last f (request i w) (clientActs f i x)
+          unfolding isKnown exists stateAllows ofPass ofNotice interactionLeft effect
+          request-last e x q = last f (request i w) _ (unless-full f (request i w) e₂ refl e₅ e₆ (of-client f i y at isOffered e) refl refl refl refl refl)
+              (ap (clientActs f i) (q ∙ ap (λ (z : Client). requests (f .config) i (z .state) w) (sym at)))
 
       module _ (e₅ : fieldsInRange (renew i w) ≡ true) where
         pub renew-6 : ltb i (f .config .clients) ≡ false → refused f 6 ≡ answerTo f (renew i w)
         unfolding isKnown exists
         renew-6 e = refused-6 f (renew i w) e₂ refl e₅ e
 
-        module _ (e₆ : ltb i (f .config .clients) ≡ true) where
-          pub renew-7 : isHolding (stateAt f i) ≡ false → refused f 7 ≡ answerTo f (renew i w)
+        module _ (e₆ : ltb i (f .config .clients) ≡ true) (y : Client) (at : getD (f .clients) i noClient ≡ y) where
+          pub renew-7 : isHolding (y .state) ≡ false → refused f 7 ≡ answerTo f (renew i w)
           unfolding isKnown exists stateAllows
-          renew-7 e = refused-7 f (renew i w) e₂ refl e₅ e₆ e
+          renew-7 e = refused-7 f (renew i w) e₂ refl e₅ e₆ (of-client f i y at isHolding e)
 
-          module _ (e₇ : isHolding (stateAt f i) ≡ true) where
+          module _ (e₇ : isHolding (y .state) ≡ true) where
             pub renew-12 : leb (f .next) 1000000 ≡ false → refused f 12 ≡ answerTo f (renew i w)
             unfolding isKnown exists stateAllows ofPass ofNotice interactionLeft
-            renew-12 e = refused-12 f (renew i w) e₂ refl e₅ e₆ e₇ refl refl refl refl e
+            renew-12 e = refused-12 f (renew i w) e₂ refl e₅ e₆ (of-client f i y at isHolding e₇) refl refl refl refl e
 
-            pub renew-last : leb (f .next) 1000000 ≡ true → (r : Answer) → Last f (renew i w) r
-            unfolding isKnown exists stateAllows ofPass ofNotice interactionLeft
-            renew-last e r = last f (renew i w) r (unless-full f (renew i w) e₂ refl e₅ e₆ e₇ refl refl refl refl e)
-
--- client i of a facade in range: what it is asked with, and that what it sends can be sent
-module _ (f : Facade) (t : T (inRange f)) (i : ℕ) (h : i < f .config .clients) where
-  pub client-below : i < 32
-  client-below = omega (arith, (sizes f t) .clients-high)
-
-  pub client-asks : Configured (f .config) × (i < f .config .clients)
-  client-asks = (sizes f t, h)
-
-  pub client-sends : (x y : ClientAnswer) → x ≡ y → y .outbox .count ≤ 4 → (i < 32) × (f .waiting ≤ 128) × (x .outbox .count ≤ 4)
-  client-sends x y e few = (client-below, waiting-high f t, rw e few)
-
--- the effects of a client's steps, by its answer x
-module _ (f : Facade) (i : ℕ) (x : ClientAnswer) (y : Answer) where
-  pub discover-does : x ≡ discovers (f .config) i (stateAt f i) (f .next) → y ≡ clientActs (withNext f (f .next + 1)) i x → y ≡ effect f (discover i)
-  unfolding effect
-  discover-does e q = q ∙ ap (clientActs (withNext f (f .next + 1)) i) e
-
-  module _ (w : ℕ) where
-    pub request-does : x ≡ requests (f .config) i (stateAt f i) w → y ≡ clientActs f i x → y ≡ effect f (request i w)
-    unfolding effect
-    request-does e q = q ∙ ap (clientActs f i) e
-
-    pub renew-does : x ≡ renews (f .config) i (stateAt f i) w (f .next) → y ≡ clientActs (withNext f (f .next + 1)) i x → y ≡ effect f (renew i w)
-    unfolding effect
-    renew-does e q = q ∙ ap (clientActs (withNext f (f .next + 1)) i) e
+            pub renew-last : leb (f .next) 1000000 ≡ true → (x : ClientAnswer) → x ≡ renews (f .config) i (y .state) w (f .next)
+                → Last f (renew i w) (clientActs (withNext f (f .next + 1)) i x)
+            unfolding isKnown exists stateAllows ofPass ofNotice interactionLeft effect
+            renew-last e x q = last f (renew i w) _ (unless-full f (renew i w) e₂ refl e₅ e₆ (of-client f i y at isHolding e₇) refl refl refl refl e)
+                (ap (clientActs (withNext f (f .next + 1)) i) (q ∙ ap (λ (z : Client). renews (f .config) i (z .state) w (f .next)) (sym at)))
 
 -- the fields of a request and of a renewal
 module _ (s : Step) where
@@ -116,3 +104,7 @@ module _ (s : Step) where
 
   pub renew-fields : s .kind ≡ 7 → {r : Bool} → r ≡ fieldsInRange (action s) → r ≡ fieldsInRange (renew (s .first) (s .second))
   renew-fields h e = e ∙ ap fieldsInRange (action-renew s h)
+
+-- a client of a facade in range has a place
+pub client-low : (f : Facade) → T (inRange f) → (i : ℕ) → i < f .config .clients → i < 32
+client-low f t i h = omega (arith, (sizes f t) .clients-high)

@@ -1,96 +1,88 @@
-// The steps of a client: discover, request, renew.
+// The steps of a client: discover, request, renew. w is the world, own the server and y the client at hand, s the step.
 use answers::client_acts;
 use answers::refused;
-use answers::unless_full;
 use client::is_holding;
 use client::is_offered;
 use ranges::fields_in_range;
-use types::Answer;
-use types::Facade;
+use types::Change;
+use types::Client;
+use types::Server;
 use types::Step;
+use types::World;
 ghost use mathlib.Core.Path.{_≡_};
-ghost use lib.Dec.{T, leb};
-ghost use Rattle.rules.specs.Ranges.{inRange};
-ghost use Rattle.rules.specs.Steps.{answerTo, discover, request, renew};
+ghost use lib.Dec.{leb};
+ghost use Rattle.answers.specs.Changes.{Gives, Ranged};
 
 // Refusal 12: whether there is an interaction number left to use.
-fn is_interaction_left(f: Facade) -> bool
-    ensures { λ r. ⌜ r ≡ leb (f .next) 1000000 ⌝ }
+fn is_interaction_left(next: u32) -> bool
+    ensures { λ r. ⌜ r ≡ leb next 1000000 ⌝ }
 {
-    f.next <= 1000000
+    next <= 1000000
 }
 
 // Step 5: discover.
-pub fn discover_step(f: Facade, i: u32) -> Answer
-    requires { ⌜ T (inRange f) ⌝ }
-    ensures { λ r. ⌜ r ≡ answerTo f (discover i) ⌝ }
+pub fn discover_step(w: World, own: Server, y: Client, s: Step) -> Change
+    requires { ⌜ Ranged w × (s .kind ≡ 5) ⌝ }
+    ensures { λ x. ⌜ Gives w own y s x ⌝ }
 {
-    let c = f.config;
+    let c = w.config;
+    let i = s.first;
     if c.clients <= i {
-        return refused(f, 6);
+        return refused(w, own, y, 6);
     }
-    let at = i as usize;
-    let y = f.clients[at];
     let state = y.state;
     if is_holding(state) {
-        return refused(f, 7);
+        return refused(w, own, y, 7);
     }
-    if !is_interaction_left(f) {
-        return refused(f, 12);
+    if !is_interaction_left(w.next) {
+        return refused(w, own, y, 12);
     }
-    let x = client::discover(c, i, state, f.next);
-    let mut g = f;
-    g.next = f.next + 1;
-    unless_full(f, client_acts(g, i, x))
+    let mut g = w;
+    g.next = w.next + 1;
+    client_acts(own, g, false, client::discover(c, i, state, w.next))
 }
 
 // Step 6: request.
-pub fn request_step(f: Facade, s: Step) -> Answer
-    requires { ⌜ T (inRange f) × (s .kind ≡ 6) ⌝ }
-    ensures { λ r. ⌜ r ≡ answerTo f (request (s .first) (s .second)) ⌝ }
+pub fn request_step(w: World, own: Server, y: Client, s: Step) -> Change
+    requires { ⌜ Ranged w × (s .kind ≡ 6) ⌝ }
+    ensures { λ x. ⌜ Gives w own y s x ⌝ }
 {
-    let c = f.config;
+    let c = w.config;
     let i = s.first;
     if !fields_in_range(s) {
-        return refused(f, 5);
+        return refused(w, own, y, 5);
     }
     if c.clients <= i {
-        return refused(f, 6);
+        return refused(w, own, y, 6);
     }
-    let at = i as usize;
-    let y = f.clients[at];
     let state = y.state;
     if !is_offered(state) {
-        return refused(f, 7);
+        return refused(w, own, y, 7);
     }
-    let x = client::request(c, i, state, s.second);
-    unless_full(f, client_acts(f, i, x))
+    client_acts(own, w, false, client::request(c, i, state, s.second))
 }
 
 // Step 7: renew.
-pub fn renew_step(f: Facade, s: Step) -> Answer
-    requires { ⌜ T (inRange f) × (s .kind ≡ 7) ⌝ }
-    ensures { λ r. ⌜ r ≡ answerTo f (renew (s .first) (s .second)) ⌝ }
+pub fn renew_step(w: World, own: Server, y: Client, s: Step) -> Change
+    requires { ⌜ Ranged w × (s .kind ≡ 7) ⌝ }
+    ensures { λ x. ⌜ Gives w own y s x ⌝ }
 {
-    let c = f.config;
+    let c = w.config;
     let i = s.first;
     if !fields_in_range(s) {
-        return refused(f, 5);
+        return refused(w, own, y, 5);
     }
     if c.clients <= i {
-        return refused(f, 6);
+        return refused(w, own, y, 6);
     }
-    let at = i as usize;
-    let y = f.clients[at];
     let state = y.state;
     if !is_holding(state) {
-        return refused(f, 7);
+        return refused(w, own, y, 7);
     }
-    if !is_interaction_left(f) {
-        return refused(f, 12);
+    if !is_interaction_left(w.next) {
+        return refused(w, own, y, 12);
     }
-    let x = client::renew(c, i, state, s.second, f.next);
-    let mut g = f;
-    g.next = f.next + 1;
-    unless_full(f, client_acts(g, i, x))
+    let mut g = w;
+    g.next = w.next + 1;
+    client_acts(own, g, false, client::renew(c, i, state, s.second, w.next))
 }

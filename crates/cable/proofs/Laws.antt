@@ -1,55 +1,208 @@
--- Laws of sending and taking out that the proofs of the code cite.
-use mathlib.Core.Path.{_≡_, sym, ap, _∙_}
+-- Laws of the loop that exchanges the waiting messages, wherever it stands.
+use mathlib.Core.Path.{_≡_, refl, sym, ap, _∙_}
+use mathlib.Core.Logic.{_≢_}
+use mathlib.Core.Bool.{Bool, true, false, cond}
 use mathlib.Core.List.{List, _∷_, _++_}
-use Prim.Native.Nat.{ℕ, suc, _+_, _-_, _≤_, _<_}
-use native.Mathlib.Numerals.{add-one}
+use Prim.Native.Nat.{ℕ, zero, suc, _+_, _-_, _≤_, _<_}
 use native.Mathlib.Omega.{arith}
-use lib.ListN.{length, getD, set, take, drop, length-drop}
-use lib.Seq.{set-out, set-at, drop-cons, getD-drop, paste, paste-suc, length-paste-head}
+use native.Mathlib.Decide.{ℕ-discrete, decLt}
+use lib.Dec.{T, ltb, ltb→lt, nltb→le}
+use lib.ListN.{length, getD, set, take, drop, length-set, length-append, length-take, length-drop}
+use lib.Seq.{getD-set-same, getD-set-other, getD-drop, getD-append-add, getD-at, ext-getD}
+use borrow.Author.Tests.{lt-ltb, le-ltb}
 use Rattle.types.specs.declared.Message.{Message}
 use Rattle.types.specs.declared.Outbox.{Outbox}
-use Rattle.types.specs.declared.Facade.{Facade}
-use Rattle.rules.specs.Parts.{noMessage, withMessages}
+use Rattle.rules.specs.Parts.{noMessage}
 use Rattle.rules.specs.Messages.{sentBehind, removed}
-use Rattle.rules.proofs.Cable.{length-sent}
+use Rattle.rules.proofs.Cable.{length-sent, length-removed, removed-case}
+use Rattle.rules.proofs.Laws.{cond-case}
+use Rattle.world.specs.Apart.{restOf, exchanged}
+use Rattle.cable.specs.Places.{firstOf, endOf, placeAbove, messageSent, messageAfter}
 
--- one message of the outbox more, the same where there is no room for it, and all of them
-module _ (f : Facade) (w : ℕ) (o : Outbox) (n : ℕ) (g : Facade) (e : g ≡ withMessages f (sentBehind (f .messages) w o n) (f .waiting)) where
-  pub sent-more : withMessages g (set (g .messages) (w + n) (getD (o .messages) n noMessage)) (g .waiting)
-      ≡ withMessages f (sentBehind (f .messages) w o (n + 1)) (f .waiting)
+-- what place i holds afterwards, by what it is: one whose message moves up, or one behind the rest
+module _ (above : Message) (o : Outbox) (rest i : ℕ) where
+  pub after-moved : i < rest → messageAfter above o rest i ≡ above
+  unfolding messageAfter
+  after-moved h = rw (lt-ltb i rest h)
+
+  pub after-sent : rest ≤ i → messageAfter above o rest i ≡ messageSent o (i - rest)
+  unfolding messageAfter
+  after-sent h = rw (le-ltb i rest h)
+
+-- What is sent behind w messages, at each place.
+module _ (ms : List Message) (w : ℕ) (o : Outbox) where
+  sent-other : (k j : ℕ) → ((x : ℕ) → x < k → j ≢ w + x) → getD (sentBehind ms w o k) j noMessage ≡ getD ms j noMessage
   unfolding sentBehind
-  sent-more = rw (add-one, e)
+  sent-other zero j ne = refl
+  sent-other (suc k) j ne =
+      getD-set-other (sentBehind ms w o k) (w + k) j (getD (o .messages) k noMessage) noMessage (ne k (omega arith))
+      ∙ sent-other k j (λ x h. ne x (omega arith))
 
-  pub sent-full : length (f .messages) ≡ 128 → 128 ≤ w + n → g ≡ withMessages f (sentBehind (f .messages) w o (n + 1)) (f .waiting)
+  sent-go : (k j : ℕ) → j < length ms → Dec (j ≡ w + k) → (j ≢ w + k → getD (sentBehind ms w o k) j noMessage ≡ getD (o .messages) (j - w) noMessage)
+      → getD (set (sentBehind ms w o k) (w + k) (getD (o .messages) k noMessage)) j noMessage ≡ getD (o .messages) (j - w) noMessage
+  sent-go k j l (yes e) old =
+      let here : j - w ≡ k = omega arith in
+      rw (here, e) (getD-set-same (sentBehind ms w o k) (w + k) (getD (o .messages) k noMessage) noMessage (omega (arith, length-sent ms w o k)))
+  sent-go k j l (no ne) old = getD-set-other (sentBehind ms w o k) (w + k) j (getD (o .messages) k noMessage) noMessage ne ∙ old ne
+
+  sent-at : (k j : ℕ) → j < length ms → w ≤ j → j < w + k → getD (sentBehind ms w o k) j noMessage ≡ getD (o .messages) (j - w) noMessage
   unfolding sentBehind
-  sent-full l h = rw (add-one, set-out (sentBehind (f .messages) w o n) (w + n) (getD (o .messages) n noMessage) (omega (arith, length-sent (f .messages) w o n))) e
+  sent-at zero j l low high = absurd (omega arith)
+  sent-at (suc k) j l low high = sent-go k j l (ℕ-discrete j (w + k)) (λ ne. sent-at k j l low (omega arith))
 
-  pub sent-all : (k : ℕ) → n ≡ o .count → withMessages g (g .messages) k ≡ withMessages f (sentBehind (f .messages) w o (o .count)) k
-  sent-all k h = rw (e, h)
+-- The messages without that at p, at the emptied place and behind it.
+module _ (ms : List Message) (p n : ℕ) (h : p < n) (l : n ≤ length ms) where
+  front-length : length (take p ms ++ take (n - suc p) (drop (suc p) ms)) ≡ n - 1
+  front-length = simp (length-append, length-take, length-drop) (omega arith)
 
--- with those from p on up to i moved up by one, one more
-pub move-more : (ms : List Message) (p i : ℕ) → p ≤ i → i + 1 < length ms
-    → set (paste ms p (drop (suc p) ms) (i - p)) i (getD ms (i + 1) noMessage) ≡ paste ms p (drop (suc p) ms) (i + 1 - p)
-move-more ms p i h l =
-    let at : i ≡ p + (i - p) = omega arith in
-    let from : i + 1 ≡ suc p + (i - p) = omega arith in
-    let next : i + 1 - p ≡ suc (i - p) = omega arith in
-    let e : getD ms (i + 1) noMessage ≡ getD (drop (suc p) ms) (i - p) noMessage = ap (λ (k : ℕ). getD ms k noMessage) from ∙ sym (getD-drop (suc p) ms (i - p) noMessage) in
-    ap (λ (k : ℕ). set (paste ms p (drop (suc p) ms) (i - p)) k (getD ms (i + 1) noMessage)) at
-    ∙ ap (set (paste ms p (drop (suc p) ms) (i - p)) (p + (i - p))) e
-    ∙ paste-suc ms p (drop (suc p) ms) (i - p) noMessage (omega arith) (simp length-drop (omega arith))
-    ∙ ap (paste ms p (drop (suc p) ms)) (sym next)
+  removed-last : (j : ℕ) → n - 1 ≤ j → j < n → getD (removed ms p n) j noMessage ≡ noMessage
+  unfolding removed
+  removed-last j low high = getD-at (take p ms ++ take (n - suc p) (drop (suc p) ms)) noMessage (drop n ms) noMessage j (omega (arith, front-length))
 
--- all moved up, and the last place emptied
-pub move-end : (ms : List Message) (p n : ℕ) → p < n → n ≤ length ms → set (paste ms p (drop (suc p) ms) (n - 1 - p)) (n - 1) noMessage ≡ removed ms p n
-unfolding removed
-move-end ms p n h l =
-    let last : p + (n - suc p) ≡ n - 1 = omega arith in
-    let count : n - 1 - p ≡ n - suc p = omega arith in
-    let after : suc (n - 1) ≡ n = omega arith in
-    ap (λ (k : ℕ). set (paste ms p (drop (suc p) ms) k) (n - 1) noMessage) count
-    ∙ ap (λ (k : ℕ). set (take p ms ++ take (n - suc p) (drop (suc p) ms) ++ drop k ms) (n - 1) noMessage) last
-    ∙ ap (λ (r : List Message). set (take p ms ++ take (n - suc p) (drop (suc p) ms) ++ r) (n - 1) noMessage) (drop-cons ms (n - 1) noMessage (omega arith))
-    ∙ set-at (take p ms ++ take (n - suc p) (drop (suc p) ms)) (getD ms (n - 1) noMessage) (drop (suc (n - 1)) ms) noMessage (n - 1)
-    (length-paste-head ms p (drop (suc p) ms) (n - suc p) (omega arith) (simp length-drop (omega arith)) ∙ last)
-    ∙ ap (λ (k : ℕ). take p ms ++ take (n - suc p) (drop (suc p) ms) ++ noMessage ∷ drop k ms) after
+  removed-behind : (j : ℕ) → n ≤ j → getD (removed ms p n) j noMessage ≡ getD ms j noMessage
+  unfolding removed
+  removed-behind j low =
+      let front : List Message = take p ms ++ take (n - suc p) (drop (suc p) ms) in
+      let at : j ≡ length front + suc (j - n) = omega (arith, front-length) in
+      let back : n + (j - n) ≡ j = omega arith in
+      ap (λ (k : ℕ). getD (front ++ noMessage ∷ drop n ms) k noMessage) at
+      ∙ getD-append-add front (noMessage ∷ drop n ms) (suc (j - n)) noMessage
+      ∙ getD-drop n ms (j - n) noMessage
+      ∙ ap (λ (k : ℕ). getD ms k noMessage) back
+
+-- The places that change.
+module _ (p n : ℕ) where
+  first-low : (taken : Bool) → (T taken → p < n) → firstOf p n taken ≤ restOf n taken
+  first-low true h = omega (arith, h tt)
+  first-low false h = omega arith
+
+  -- a place whose message is replaced by that above it is not the last one
+  above-low : (taken : Bool) (j : ℕ) → firstOf p n taken ≤ j → j < restOf n taken → suc j < n
+  above-low true j low high = omega arith
+  above-low false j low high = absurd (omega arith)
+
+-- the messages without that at p if it is taken
+abbrev stays : List Message → ℕ → ℕ → Bool → List Message
+stays ms p n taken = cond taken (removed ms p n) ms
+
+module _ (ms : List Message) (p n : ℕ) (l : n ≤ length ms) where
+  length-stays : (taken : Bool) → (T taken → p < n) → length (stays ms p n taken) ≡ length ms
+  length-stays true h = length-removed ms p n (h tt) l
+  length-stays false h = refl
+
+  stays-below : (taken : Bool) → (T taken → p < n) → (j : ℕ) → j < firstOf p n taken → getD (stays ms p n taken) j noMessage ≡ getD ms j noMessage
+  stays-below true h j b =
+      removed-case ms p n (h tt) l (λ (x : Message). x ≡ getD ms j noMessage) j (omega (arith, h tt)) (λ _. refl) (λ q. absurd (omega arith))
+  stays-below false h j b = refl
+
+  stays-moved : (taken : Bool) → (T taken → p < n) → (j : ℕ) → firstOf p n taken ≤ j → j < restOf n taken
+      → getD (stays ms p n taken) j noMessage ≡ getD ms (suc j) noMessage
+  stays-moved true h j low high =
+      removed-case ms p n (h tt) l (λ (x : Message). x ≡ getD ms (suc j) noMessage) j high (λ q. absurd (omega arith)) (λ _. refl)
+  stays-moved false h j low high = absurd (omega arith)
+
+  stays-last : (taken : Bool) → (T taken → p < n) → (j : ℕ) → restOf n taken ≤ j → j < n → getD (stays ms p n taken) j noMessage ≡ noMessage
+  stays-last true h j low high = removed-last ms p n (h tt) l j low high
+  stays-last false h j low high = absurd (omega arith)
+
+  stays-behind : (taken : Bool) → (T taken → p < n) → (j : ℕ) → n ≤ j → getD (stays ms p n taken) j noMessage ≡ getD ms j noMessage
+  stays-behind true h j low = removed-behind ms p n (h tt) l j low
+  stays-behind false h j low = refl
+
+-- What each place holds after the exchange.
+module _ (ms : List Message) (p n : ℕ) (taken : Bool) (o : Outbox) (l : n ≤ length ms) (h : T taken → p < n) where
+  length-exchanged : length (exchanged ms p n taken o) ≡ length ms
+  length-exchanged = length-sent (stays ms p n taken) (restOf n taken) o (o .count) ∙ length-stays ms p n l taken h
+
+  exchanged-below : (j : ℕ) → j < firstOf p n taken → getD (exchanged ms p n taken o) j noMessage ≡ getD ms j noMessage
+  exchanged-below j b =
+      sent-other (stays ms p n taken) (restOf n taken) o (o .count) j (λ x k e. omega (arith, first-low p n taken h))
+      ∙ stays-below ms p n l taken h j b
+
+  exchanged-behind : (j : ℕ) → n ≤ j → restOf n taken + o .count ≤ j → getD (exchanged ms p n taken o) j noMessage ≡ getD ms j noMessage
+  exchanged-behind j b s =
+      sent-other (stays ms p n taken) (restOf n taken) o (o .count) j (λ x k e. omega arith)
+      ∙ stays-behind ms p n l taken h j b
+
+  -- where the message above it counts only while any moves up
+  exchanged-between : (above : Message) (j : ℕ) → j < length ms → firstOf p n taken ≤ j → j < endOf n (restOf n taken) (o .count)
+      → (j < restOf n taken → above ≡ getD ms (suc j) noMessage)
+      → getD (exchanged ms p n taken o) j noMessage ≡ messageAfter above o (restOf n taken) j
+  unfolding messageSent messageAfter
+  exchanged-between above j b low high up =
+      let P : Message → Type 0 = λ (x : Message). getD (exchanged ms p n taken o) j noMessage ≡ x in
+      cond-case P (ltb j (restOf n taken)) _ _
+      (λ t. let moves : j < restOf n taken = ltb→lt _ _ t in
+      sent-other (stays ms p n taken) (restOf n taken) o (o .count) j (λ x k e. omega arith)
+      ∙ stays-moved ms p n l taken h j low moves
+      ∙ sym (up moves))
+      (λ t. let rest : restOf n taken ≤ j = nltb→le _ _ t in
+      cond-case P (ltb (j - restOf n taken) (o .count)) _ _
+      (λ u. let sent : j - restOf n taken < o .count = ltb→lt _ _ u in
+      sent-at (stays ms p n taken) (restOf n taken) o (o .count) j (omega (arith, length-stays ms p n l taken h)) rest (omega arith))
+      (λ u. let unsent : o .count ≤ j - restOf n taken = nltb→le _ _ u in
+      sent-other (stays ms p n taken) (restOf n taken) o (o .count) j (λ x k e. omega arith)
+      ∙ stays-last ms p n l taken h j rest (omega arith)))
+
+-- The loop with place i next: those before it are as after the exchange, the others as before it.
+pub record Moving (ms : List Message) (p n : ℕ) (taken : Bool) (o : Outbox) (i : ℕ) (out : List Message) : Type 0 where
+  pub whole : length ms ≡ 128
+  pub fits : n ≤ 128
+  pub there : T taken → p < n
+  pub size : length out ≡ 128
+  pub low : firstOf p n taken ≤ i
+  pub done : (j : ℕ) → j < i → getD out j noMessage ≡ getD (exchanged ms p n taken o) j noMessage
+  pub left : (j : ℕ) → i ≤ j → getD out j noMessage ≡ getD ms j noMessage
+
+-- it begins with the first place that changes
+pub moving-start : (ms : List Message) (p n : ℕ) (taken : Bool) (o : Outbox) (i : ℕ)
+    → length ms ≡ 128 → n ≤ 128 → (T taken → p < n) → i ≡ firstOf p n taken → Moving ms p n taken o i ms
+moving-start ms p n taken o i whole fits there e = record {
+  whole = whole;
+  fits = fits;
+  there = there;
+  size = whole;
+  low = omega arith;
+  done = λ j h. sym (exchanged-below ms p n taken o (omega arith) there j (omega arith));
+  left = λ j h. refl;
+}
+
+module _ {ms : List Message} {p n : ℕ} {taken : Bool} {o : Outbox} {i : ℕ} {out : List Message} (m : Moving ms p n taken o i out) where
+  done-go : (v : Message) → i < 128 → v ≡ getD (exchanged ms p n taken o) i noMessage → (j : ℕ) → j < i + 1 → Dec (j ≡ i)
+      → getD (set out i v) j noMessage ≡ getD (exchanged ms p n taken o) j noMessage
+  done-go v b e j h (yes here) = rw here (getD-set-same out i v noMessage (omega (arith, m .size)) ∙ e)
+  done-go v b e j h (no ne) = getD-set-other out i j v noMessage ne ∙ m .done j (omega arith)
+
+  -- one place more, as the loop writes it
+  pub moving-more : {rest up : ℕ} {v : Message} → rest ≡ restOf n taken → i < endOf n rest (o .count) → up ≡ placeAbove i
+      → v ≡ messageAfter (getD out up noMessage) o rest i → Moving ms p n taken o (i + 1) (set out i v)
+  moving-more {rest} {up} {v} r b u e =
+      let l : n ≤ length ms = omega (arith, m .fits, m .whole) in
+      let near : i < restOf n taken → getD out up noMessage ≡ getD ms (suc i) noMessage = λ q.
+      let next : up ≡ suc i = omega (arith, above-low p n taken i (m .low) q, m .fits) in
+      rw next (m .left (suc i) (omega arith)) in
+      let after : getD (exchanged ms p n taken o) i noMessage ≡ messageAfter (getD out up noMessage) o (restOf n taken) i =
+      exchanged-between ms p n taken o l (m .there) (getD out up noMessage) i (omega (arith, m .whole)) (m .low) (omega arith) near in
+      let same : v ≡ getD (exchanged ms p n taken o) i noMessage = (rw (← r) e) ∙ sym after in
+      record {
+        whole = m .whole;
+        fits = m .fits;
+        there = m .there;
+        size = length-set out i v ∙ m .size;
+        low = omega (arith, m .low);
+        done = λ j h. done-go v (omega arith) same j h (ℕ-discrete j i);
+        left = λ j h. getD-set-other out i j v noMessage (λ q. omega arith) ∙ m .left j (omega arith);
+      }
+
+  -- with no place left that changes, all are as after the exchange
+  pub moving-done : {rest : ℕ} → rest ≡ restOf n taken → endOf n rest (o .count) ≤ i → out ≡ exchanged ms p n taken o
+  moving-done {rest} r b =
+      ext-getD noMessage out (exchanged ms p n taken o) (m .size ∙ sym (length-exchanged ms p n taken o l (m .there) ∙ m .whole))
+      (λ j h. by j (omega (arith, m .size)) (decLt j i))
+    where
+      l : n ≤ length ms
+      l = omega (arith, m .fits, m .whole)
+
+      by : (j : ℕ) → j < 128 → Dec (j < i) → getD out j noMessage ≡ getD (exchanged ms p n taken o) j noMessage
+      by j h (yes y) = m .done j y
+      by j h (no ny) = m .left j (omega arith) ∙ sym (exchanged-behind ms p n taken o l (m .there) j (omega arith) (omega arith))

@@ -1,71 +1,83 @@
-// The waiting messages of a facade, in the order sent: sending and taking out.
-use types::Facade;
+// The waiting messages, in the order sent: one is taken out, and what a step sends waits behind the rest.
+// A caller that keeps the messages in a local writes the loop of `exchange` there, as handing them over copies them.
 use types::Message;
 use types::Outbox;
+use world::rest_of;
 ghost use mathlib.Core.Path.{_≡_};
 ghost use Prim.Native.Nat.{_≤_, _<_};
-ghost use Rattle.rules.specs.Messages.{sendAll, removed, without as withoutMessage};
-ghost use Rattle.rules.specs.Steps.{takenOut};
+ghost use lib.Dec.{T};
+ghost use Rattle.world.specs.Apart.{exchanged};
+ghost use Rattle.cable.specs.Places.{firstOf, endOf, placeAbove, messageSent};
 
-// What is sent waits behind the others, in order; counted also where there is no room for it.
-pub fn send_all(f: Facade, o: Outbox) -> Facade
-    requires { ⌜ (f .waiting ≤ 128) × (o .count ≤ 4) ⌝ }
-    ensures { λ r. ⌜ r ≡ sendAll f o ⌝ }
+// The first place that changes: that of the message at p, if it is taken out, or that behind the n that wait.
+pub fn first_of(p: u32, n: u32, taken: bool) -> u32
+    ensures { λ r. ⌜ r ≡ firstOf p n taken ⌝ }
 {
-    let before = f.waiting;
-    let count = o.count;
-    let mut g = f;
-    let mut n = 0;
-    while n < count {
-        let at = n as usize;
-        let m = o.messages[at];
-        let place = (before + n) as usize;
-        if place < 128 {
-            g.messages[place] = m;
-        }
-        n += 1;
+    if taken {
+        return p;
     }
-    g.waiting = before + count;
-    g
+    n
 }
 
-// Of n waiting messages that at p is taken out: those behind it move up, and the last place is emptied.
-fn remove(ms: [Message; 128], p: u32, n: u32) -> [Message; 128]
-    requires { ⌜ (p < n) × (n ≤ 128) ⌝ }
-    ensures { λ r. ⌜ r ≡ removed ms p n ⌝ }
+// The place behind the last one that changes, where n messages waited, `rest` of them stay and `count` are sent.
+// What there is no room for is dropped; refusal 13 stands before.
+pub fn end_of(n: u32, rest: u32, count: u32) -> u32
+    requires { ⌜ (n ≤ 128) × (rest ≤ n) × (count ≤ 4) ⌝ }
+    ensures { λ r. ⌜ r ≡ endOf n rest count ⌝ }
 {
+    let behind = rest + count;
+    if behind < n {
+        return n;
+    }
+    if behind < 128 {
+        return behind;
+    }
+    128
+}
+
+// The place above i, or the last place.
+pub fn place_above(i: u32) -> usize
+    ensures { λ r. ⌜ r ≡ placeAbove i ⌝ }
+{
+    if i < 127 {
+        return (i + 1) as usize;
+    }
+    127
+}
+
+// The message at place k of an outbox, or no message.
+pub fn message_sent(o: Outbox, k: u32) -> Message
+    requires { ⌜ o .count ≤ 4 ⌝ }
+    ensures { λ r. ⌜ r ≡ messageSent o k ⌝ }
+{
+    if k < o.count {
+        let at = k as usize;
+        return o.messages[at];
+    }
+    outbox::empty()
+}
+
+// Of n waiting messages that at p is taken out if `taken`, and what o holds waits behind the rest.
+pub fn exchange(ms: [Message; 128], p: u32, n: u32, taken: bool, o: Outbox) -> [Message; 128]
+    requires { ⌜ (n ≤ 128) × (o .count ≤ 4) × (T taken → p < n) ⌝ }
+    ensures { λ r. ⌜ r ≡ exchanged ms p n taken o ⌝ }
+{
+    let rest = rest_of(n, taken);
+    let last = end_of(n, rest, o.count);
     let mut out = ms;
-    let last = n - 1;
-    let mut i = p;
+    let mut i = first_of(p, n, taken);
     while i < last {
         let at = i as usize;
-        let m = ms[at + 1];
+        if i < rest {
+            let up = place_above(i);
+            let above = out[up];
+            out[at] = above;
+            i += 1;
+            continue;
+        }
+        let m = message_sent(o, i - rest);
         out[at] = m;
         i += 1;
     }
-    let end = last as usize;
-    let none = outbox::empty();
-    out[end] = none;
     out
-}
-
-// The facade without the message at position p.
-pub fn without(f: Facade, p: u32) -> Facade
-    requires { ⌜ (p < f .waiting) × (f .waiting ≤ 128) ⌝ }
-    ensures { λ r. ⌜ r ≡ withoutMessage f p ⌝ }
-{
-    let ms = f.messages;
-    let out = remove(ms, p, f.waiting);
-    let mut g = f;
-    g.messages = out;
-    g.waiting = f.waiting - 1;
-    g
-}
-
-// The facade in which the message at p is handled: it is taken out first if keep is 0.
-pub fn take_out(f: Facade, p: u32, keep: u32) -> Facade
-    requires { ⌜ (p < f .waiting) × (f .waiting ≤ 128) ⌝ }
-    ensures { λ r. ⌜ r ≡ takenOut f p keep ⌝ }
-{
-    if keep == 0 { without(f, p) } else { f }
 }

@@ -7,18 +7,19 @@ use arith::reading;
 use arith::shifted;
 use types::Client;
 use types::Config;
-use types::Facade;
-use types::Server;
+use types::World;
 ghost use mathlib.Core.Path.{_≡_};
-ghost use Prim.Native.Nat.{ℕ, _+_, _*_, _≤_, _<_};
+ghost use mathlib.Core.Bool.{false, not};
+ghost use Prim.Native.Nat.{_+_, _*_, _≤_, _<_};
 ghost use lib.Dec.{leb, eqb};
-ghost use lib.IntN.{ℤ, pos, natAbs};
-ghost use lib.ListN.{getD};
+ghost use lib.IntN.{pos, natAbs, _+ℤ_};
+ghost use lib.ListN.{getD, set};
+ghost use Rattle.types.specs.declared.Server.{Server};
 ghost use Rattle.rules.specs.Conditions.{_or_, all};
 ghost use Rattle.rules.specs.Clock.{plus};
-ghost use Rattle.rules.specs.Parts.{offsetAt};
-ghost use Rattle.rules.specs.Steps.{offsetAllows, isSoOf, inTouch, moved, lapse, rowNow};
+ghost use Rattle.rules.specs.Steps.{offsetAllows, isSoOf, rowNow};
 ghost use Rattle.rules.proofs.Kept.{Configured};
+ghost use Rattle.world.specs.Apart.{timeIn, ended, holdsAfter};
 
 // The clock of party p, by true time t and the offsets.
 pub fn clock_of(t: u32, os: [i32; 36], p: u32) -> u32
@@ -63,69 +64,77 @@ fn is_heard_by(c: Config, ts: [u32; 16], now: u32, k: u32) -> bool
     ok
 }
 
-// Refusal 10: no live server is more than ν without a notice about another.
-pub fn is_in_touch(f: Facade, d: u32) -> bool
-    requires { ⌜ (f .config .servers ≤ 4) × (f .time + d ≤ 1000000000) ⌝ }
-    ensures { λ r. ⌜ ((p : ℕ) (e : ℤ) → r ≡ inTouch f d p e) ⌝ }
+// Refusal 10: no live server is more than ν without a notice about another, by the notice times.
+pub fn is_in_touch(c: Config, ts: [u32; 16], alive: [bool; 4], now: u32) -> bool
+    requires { ⌜ c .servers ≤ 4 ⌝ }
+    ensures { λ r. ⌜ r ≡ all (λ k. not (getD alive k false) or all (λ j. eqb j k or leb now (getD ts (k * 4 + j) 0 + c .silence)) (c .servers)) (c .servers) ⌝ }
 {
-    let c = f.config;
-    let ts = f.notices;
-    let now = f.time + d;
     let count = c.servers;
     let mut ok = true;
     let mut k = 0;
     while k < count {
         let at = k as usize;
-        let s = f.servers[at];
-        ok = both(either(!s.alive, is_heard_by(c, ts, now, k)), ok);
+        ok = both(either(!alive[at], is_heard_by(c, ts, now, k)), ok);
         k += 1;
     }
     ok
 }
 
-// True time and the clocks go on.
-pub fn move_on(f: Facade, d: u32, p: u32, e: i32) -> Facade
-    requires { ⌜ (f .time + d ≤ 1000000000) × (p < 36) × (natAbs (offsetAt f p) ≤ 1000) × (natAbs e ≤ 2000) ⌝ }
-    ensures { λ r. ⌜ r ≡ moved f d p e ⌝ }
+// True time and all clocks go on by d, and that of party p by e more.
+pub fn move_on(w: World, d: u32, p: u32, e: i32) -> World
+    requires { ⌜ (w .time + d ≤ 1000000000) × (p < 36) × (natAbs (getD (w .offsets) p (pos 0)) ≤ 1000) × (natAbs e ≤ 2000) ⌝ }
+    ensures { λ r. ⌜ r ≡ timeIn w (w .time + d) (set (w .offsets) p (getD (w .offsets) p (pos 0) +ℤ e)) ⌝ }
 {
     let at = p as usize;
-    let mut g = f;
-    g.time = f.time + d;
-    g.offsets[at] = shifted(f.offsets[at], e);
+    let mut g = w;
+    g.time = w.time + d;
+    g.offsets[at] = shifted(w.offsets[at], e);
     g
 }
 
 // Holds whose end is not above their client's clock are over.
-pub fn end_holds(f: Facade) -> Facade
-    requires { ⌜ Configured (f .config) × (f .time ≤ 1000000000) ⌝ }
-    ensures { λ r. ⌜ r ≡ lapse f ⌝ }
+pub fn end_holds(w: World, ys: [Client; 32]) -> [Client; 32]
+    requires { ⌜ Configured (w .config) × (w .time ≤ 1000000000) ⌝ }
+    ensures { λ r. ⌜ r ≡ ended w ys ⌝ }
 {
-    let c = f.config;
+    let c = w.config;
     let count = c.clients;
-    let os = f.offsets;
-    let mut g = f;
+    let os = w.offsets;
+    let mut out = ys;
     let mut i = 0;
     while i < count {
         let at = i as usize;
-        let y = f.clients[at];
+        let y = ys[at];
         let state = y.state;
-        let left = client::lapse(clock_of(f.time, os, c.servers + i), state);
-        g.clients[at] = Client { state: left };
+        let left = client::lapse(clock_of(w.time, os, c.servers + i), state);
+        out[at] = Client { state: left };
         i += 1;
     }
-    g
+    out
 }
 
-// Refusal 11: what a notice says of server s is so at true time t, or was until less than ν ago.
-pub fn is_credible_notice(c: Config, t: u32, s: Server, says: u32) -> bool
-    ensures { λ r. ⌜ r ≡ isSoOf c t s says ⌝ }
+// The clients after a step, t being true time before it. A pass moves true time, by 1 or more, and no other step does;
+// a pass ends holds, and no other step does.
+pub fn holds_after(t: u32, w: World, ys: [Client; 32]) -> [Client; 32]
+    requires { ⌜ Configured (w .config) × (w .time ≤ 1000000000) ⌝ }
+    ensures { λ r. ⌜ r ≡ holdsAfter t w ys ⌝ }
 {
-    let until = (s.changed as u64) + (c.silence as u64);
+    if t < w.time {
+        return end_holds(w, ys);
+    }
+    ys
+}
+
+// Refusal 11: what a notice says of a server, alive or not since `changed`, is so at true time t, or was until less than ν ago.
+pub fn is_credible_notice(c: Config, t: u32, alive: bool, changed: u32, says: u32) -> bool
+    ensures { λ r. ⌜ ((s : Server) → s .alive ≡ alive → s .changed ≡ changed → r ≡ isSoOf c t s says) ⌝ }
+{
+    let until = (changed as u64) + (c.silence as u64);
     let recent = (t as u64) < until;
     if says == 1 {
-        return either(s.alive, recent);
+        return either(alive, recent);
     }
-    either(!s.alive, recent)
+    either(!alive, recent)
 }
 
 // The notice times with those of receiver k set to t.

@@ -1,11 +1,12 @@
 -- What a delivery answers, by its tests, and how it is put together.
 use mathlib.Core.Path.{_≡_, refl, ap, _∙_}
-use mathlib.Core.Bool.{Bool, true, false}
+use mathlib.Core.Bool.{Bool, true, false, cond}
+use mathlib.Core.List.{List}
 use Prim.Native.Nat.{ℕ, _≤_, _<_, _-_}
 use native.Mathlib.Omega.{arith}
-use borrow.Author.Tests.{lt-ltb, le-ltb, le-leb}
+use borrow.Author.Tests.{lt-ltb, le-ltb}
 use lib.Dec.{T, ltb, eqb, ltb→lt, not-T}
-use lib.ListN.{length}
+use lib.ListN.{getD}
 use Rattle.types.specs.declared.Config.{Config}
 use Rattle.types.specs.declared.Server.{Server}
 use Rattle.types.specs.declared.ServerAnswer.{ServerAnswer}
@@ -13,24 +14,31 @@ use Rattle.types.specs.declared.Step.{Step}
 use Rattle.types.specs.declared.Facade.{Facade}
 use Rattle.types.specs.declared.Answer.{Answer}
 use Rattle.types.specs.declared.ClientAnswer.{ClientAnswer}
-use Rattle.rules.specs.Conditions.{_and_, unless}
-use Rattle.rules.specs.Parts.{serverAt, stateAt, clock, parties, messageAt}
+use Rattle.rules.specs.Conditions.{_and_}
+use Rattle.rules.specs.Parts.{noServer, noClient, parties, messageAt}
 use Rattle.rules.specs.Ranges.{inRange, isServer, bodyInRange, messageInRange}
 use Rattle.rules.specs.Client.{clientReceives}
 use Rattle.rules.specs.Server.{serverReceives}
-use Rattle.rules.specs.Steps.{deliver, lose, isKnown, fieldsInRange, exists, stateAllows, ofPass, ofNotice, interactionLeft, refused, serverActs, effect, action, answerTo, clientActs, roomLeft, refusal, takenOut, handled}
+use Rattle.rules.specs.Steps.{deliver, isKnown, fieldsInRange, exists, stateAllows, ofPass, ofNotice, interactionLeft, refused, serverActs, effect, action, answerTo, clientActs, takenOut, handled}
 use Rattle.rules.proofs.Laws.{true-of, and-r, cond-case}
-use Rattle.rules.proofs.Kept.{Configured, ranged}
+use Rattle.rules.proofs.Kept.{Configured}
 use Rattle.rules.proofs.Actions.{action-deliver}
 use Rattle.rules.proofs.Refusals.{refused-5, refused-6, unless-full}
 use native.Mathlib.Decide.{decLt}
 use Rattle.types.specs.declared.State.{State}
+use Rattle.types.specs.declared.Client.{Client}
+use Rattle.types.specs.declared.World.{World}
+use Rattle.types.specs.declared.Lives.{Lives}
+use Rattle.types.specs.declared.Change.{Change}
 use Rattle.types.specs.declared.Message.{Message}
 use Rattle.rules.specs.Messages.{without}
 use Rattle.rules.proofs.Counts.{few-received, few-replied}
-use Rattle.rules.proofs.Ranges.{in-range-kept}
 use Rattle.rules.proofs.Delivery.{for-client}
-use Rattle.answers.proofs.Laws.{Last, last}
+use Rattle.world.specs.Apart.{facadeOf, serverPlace, clientPlace}
+use Rattle.world.proofs.Laws.{place-named}
+use Rattle.answers.specs.Changes.{byServer, byClient, answered, Parts, Answers, Fits}
+use Rattle.answers.proofs.Laws.{Last, last, sizes, waiting-high, step-is, acting, is-server's, is-client's, unless13}
+use Rattle.delivery.specs.Handling.{clockIn, handles}
 
 module _ (f : Facade) (t : T (inRange f)) where
   e₂ : inRange f ≡ true
@@ -46,9 +54,9 @@ module _ (f : Facade) (t : T (inRange f)) where
       unfolding isKnown exists
       deliver-6 e = refused-6 f (deliver p keep) e₂ refl e₅ e
 
-      pub deliver-last : ltb p (f .waiting) ≡ true → (r : Answer) → Last f (deliver p keep) r
-      unfolding isKnown exists stateAllows ofPass ofNotice interactionLeft
-      deliver-last e r = last f (deliver p keep) r (unless-full f (deliver p keep) e₂ refl e₅ e refl refl refl refl refl refl)
+      pub deliver-last : ltb p (f .waiting) ≡ true → (a : Answer) → a ≡ handled (takenOut f p keep) (messageAt f p) → Last f (deliver p keep) a
+      unfolding isKnown exists stateAllows ofPass ofNotice interactionLeft effect
+      deliver-last e a q = last f (deliver p keep) a (unless-full f (deliver p keep) e₂ refl e₅ e refl refl refl refl refl refl) q
 
 -- the receiver of a message in range exists
 pub receiver-exists : (c : Config) (n : ℕ) (m : Message) → T (messageInRange c n m) → m .receiver < parties c
@@ -63,45 +71,89 @@ pub body-of : (c : Config) (n : ℕ) (m : Message) → T (messageInRange c n m) 
 unfolding messageInRange
 body-of c n m t = and-r _ _ t
 
--- a message is handled by the party that it is for
-module _ (f : Facade) (m : Message) (r : ℕ) (q : r ≡ clock f (m .receiver)) (y : Answer) where
-  pub handled-by-server : (x : ServerAnswer) → m .receiver < f .config .servers
-      → x ≡ serverReceives (f .config) (m .receiver) r (serverAt f (m .receiver)) m → y ≡ serverActs f (m .receiver) x → y ≡ handled f m
-  unfolding handled
-  handled-by-server x h e p = rw (lt-ltb (m .receiver) (f .config .servers) h, ← q, ← e) p
+-- the facade in which a message is handled
+pub acts-in : (w : World) (ss : List Server) (ys : List Client) (ms : List Message) (p keep : ℕ)
+    → acting w w (eqb keep 0) ss ys ms p ≡ takenOut (facadeOf w ss ys ms) p keep
+unfolding takenOut
+acts-in w ss ys ms p keep = go (eqb keep 0) where
+  go : (b : Bool) → acting w w b ss ys ms p ≡ cond b (without (facadeOf w ss ys ms) p) (facadeOf w ss ys ms)
+  go true = refl
+  go false = refl
 
-  pub handled-by-client : (x : ClientAnswer) → f .config .servers ≤ m .receiver
-      → x ≡ clientReceives r (stateAt f (m .receiver - f .config .servers)) m → y ≡ clientActs f (m .receiver - f .config .servers) x → y ≡ handled f m
-  unfolding handled
-  handled-by-client x h e p = rw (le-ltb (m .receiver) (f .config .servers) h, ← q, ← e) p
+-- Message m at hand, delivered to a party that there is.
+module _ (w : World) (l : Lives) (own : Server) (y : Client) (m : Message) (s : Step) (ss : List Server) (ys : List Client) (ms : List Message)
+    (h : Parts w l own y m s ss ys ms) (kind : s .kind ≡ 8) (ok : Configured (w .config)) (there : m .receiver < parties (w .config)) (b : Bool) where
+  abbrev k : ℕ
+  k = serverPlace s m
 
--- a facade out of which a message was taken is in range, and so is each message that waited
-module _ (f : Facade) (t : T (inRange f)) (len : length (f .messages) ≡ 128) (p : ℕ) (h : p < f .waiting) where
-  lost : refusal f (lose p) ≡ 0
-  unfolding refusal unless isKnown fieldsInRange exists stateAllows ofPass ofNotice interactionLeft roomLeft effect
-  lost = rw (true-of (inRange f) t, lt-ltb p (f .waiting) h, le-leb (f .waiting - 1) 128 (omega (arith, ranged f t .waiting)))
+  abbrev i : ℕ
+  i = clientPlace (w .config .servers) s m
 
-  pub taken-in-range : (keep : ℕ) → T (inRange (takenOut f p keep))
-  unfolding takenOut effect
-  taken-in-range keep = cond-case (λ g. T (inRange g)) (eqb keep 0) (without f p) f (λ _. in-range-kept f (lose p) len lost) (λ _. t)
+  server-is : m .receiver < w .config .servers → k ≡ m .receiver
+  server-is u = rw kind (place-named 4 (m .receiver) (omega (arith, ok .servers-high)))
 
-  pub message-in-range : (keep q : ℕ) → q < f .waiting → T (messageInRange ((takenOut f p keep) .config) ((takenOut f p keep) .next) (messageAt f q))
-  unfolding takenOut
-  message-in-range keep q l =
-      let x : T (messageInRange (f .config) (f .next) (messageAt f q)) = ranged f t .message (messageAt f q) (record { at = q; below = l; is = refl }) in
-      cond-case (λ g. T (messageInRange (g .config) (g .next) (messageAt f q))) (eqb keep 0) (without f p) f (λ _. x) (λ _. x)
+  client-is : w .config .servers ≤ m .receiver → i ≡ m .receiver - w .config .servers
+  client-is u = rw kind (place-named 32 (m .receiver - w .config .servers) (omega (arith, ok .clients-high, there)))
 
--- a message handled after it was taken out
-pub delivered-is : (f g : Facade) (p keep : ℕ) (y : Answer) → g ≡ takenOut f p keep → y ≡ handled g (messageAt f p) → y ≡ effect f (deliver p keep)
-unfolding effect
-delivered-is f g p keep y e q = rw (← e) q
+  -- the change is the answer of the party that it is for
+  by-server : m .receiver < w .config .servers → answered w ss ys ms k i (s .first) (handles w own y m b) ≡ handled (acting w w b ss ys ms (s .first)) m
+  unfolding handles handled
+  by-server u =
+      let z = serverReceives (w .config) (m .receiver) (clockIn w (m .receiver)) own m in
+      let at : getD ss (m .receiver) noServer ≡ own = rw (server-is u) at (h .server) in
+      rw (lt-ltb (m .receiver) (w .config .servers) u, at)
+      (is-server's w ss ys ms k i (s .first) w refl refl b y (h .client) z ∙ ap (λ (j : ℕ). serverActs (acting w w b ss ys ms (s .first)) j z) (server-is u))
 
-pub taken-ready : (f : Facade) → T (inRange f) → length (f .messages) ≡ 128 → (p : ℕ) → p < f .waiting → (keep : ℕ) (g : Facade) → g ≡ takenOut f p keep
-    → (q : ℕ) → q < f .waiting → T (inRange g) × T (messageInRange (g .config) (g .next) (messageAt f q))
-taken-ready f t len p h keep g e q l = (rw e (taken-in-range f t len p h keep), rw e (message-in-range f t len p h keep q l))
+  by-client : w .config .servers ≤ m .receiver → answered w ss ys ms k i (s .first) (handles w own y m b) ≡ handled (acting w w b ss ys ms (s .first)) m
+  unfolding handles handled
+  by-client u =
+      let z = clientReceives (clockIn w (m .receiver)) (y .state) m in
+      let at : getD ys (m .receiver - w .config .servers) noClient ≡ y = rw (client-is u) at (h .client) in
+      rw (le-ltb (m .receiver) (w .config .servers) u, at)
+      (is-client's w ss ys ms k i (s .first) w refl refl b own (h .server) z ∙ ap (λ (j : ℕ). clientActs (acting w w b ss ys ms (s .first)) j z) (client-is u))
+
+  pub is-handled : answered w ss ys ms k i (s .first) (handles w own y m b) ≡ handled (acting w w b ss ys ms (s .first)) m
+  is-handled = go (decLt (m .receiver) (w .config .servers)) where
+    go : Dec (m .receiver < w .config .servers) → answered w ss ys ms k i (s .first) (handles w own y m b) ≡ handled (acting w w b ss ys ms (s .first)) m
+    go (yes u) = by-server u
+    go (no nu) = by-client (omega arith)
 
 pub deliver-fields : (s : Step) → s .kind ≡ 8 → {r : Bool} → r ≡ fieldsInRange (action s) → r ≡ fieldsInRange (deliver (s .first) (s .second))
 deliver-fields s h e = e ∙ ap fieldsInRange (action-deliver s h)
+
+-- the party at hand handles it
+module _ (w : World) (own : Server) (y : Client) (m : Message) (b : Bool) where
+  pub handles-server : m .receiver < w .config .servers
+      → byServer w y b (serverReceives (w .config) (m .receiver) (clockIn w (m .receiver)) own m) ≡ handles w own y m b
+  unfolding handles
+  handles-server u = rw (lt-ltb (m .receiver) (w .config .servers) u)
+
+  pub handles-client : w .config .servers ≤ m .receiver → byClient w own b (clientReceives (clockIn w (m .receiver)) (y .state) m) ≡ handles w own y m b
+  unfolding handles
+  handles-client u = rw (le-ltb (m .receiver) (w .config .servers) u)
+
+  pub handles-fits : (s : Step) → w .config .servers ≤ 4 → (T b → s .first < w .waiting) → (x : Change) → x ≡ handles w own y m b → Fits w s x
+  unfolding handles
+  handles-fits s ok low x e =
+      rw e
+      (cond-case (Fits w s) (isServer (w .config) (m .receiver)) _ _
+      (λ t. (few-received (w .config) (m .receiver) ok (ltb→lt (m .receiver) (w .config .servers) t) (clockIn w (m .receiver)) own m, low))
+      (λ _. (few-replied (clockIn w (m .receiver)) (y .state) m, low)))
+
+-- the answer to a delivery of a message that there is
+pub delivers : (w : World) (l : Lives) (own : Server) (y : Client) (m : Message) (s : Step) → s .kind ≡ 8
+    → fieldsInRange (deliver (s .first) (s .second)) ≡ true → s .first < w .waiting → T (messageInRange (w .config) (w .next) m)
+    → (x : Change) → x ≡ handles w own y m (eqb (s .second) 0) → Answers w l own y m s x
+delivers w l own y m s kind e₅ low good x e ss ys ms h =
+    let f = facadeOf w ss ys ms in
+    let t = h .sound .0 in
+    let at : messageAt f (s .first) ≡ m = rw (place-named 128 (s .first) (omega (arith, waiting-high f t))) at (h .message) in
+    let a = handled (acting w w (eqb (s .second) 0) ss ys ms (s .first)) m in
+    let same : a ≡ handled (takenOut f (s .first) (s .second)) (messageAt f (s .first)) = rw at (ap (λ (g : Facade). handled g m) (acts-in w ss ys ms (s .first) (s .second))) in
+    rw e
+    (ap (unless13 f) (is-handled w l own y m s ss ys ms h kind (sizes f t) (receiver-exists (w .config) (w .next) m good) (eqb (s .second) 0))
+    ∙ deliver-last f t (s .first) (s .second) e₅ (lt-ltb (s .first) (w .waiting) low) a same
+    ∙ step-is f s _ (action-deliver s kind))
 
 -- what a party that handles a message sends
 pub server-sends : (c : Config) (k r : ℕ) (s : Server) (m : Message) (x : ServerAnswer) → Configured c → k < c .servers → x ≡ serverReceives c k r s m → x .outbox .count ≤ 4

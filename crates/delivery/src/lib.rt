@@ -1,56 +1,49 @@
 // Step 8, deliver: a message is taken out and handled.
+// w is the world, own the server, y the client and m the message at hand, s the step.
 use answers::client_acts;
 use answers::refused;
 use answers::server_acts;
-use answers::unless_full;
-use cable::take_out;
 use clocks::clock_of;
 use ranges::fields_in_range;
-use types::Answer;
-use types::Facade;
+use types::Change;
+use types::Client;
 use types::Message;
+use types::Server;
 use types::Step;
+use types::World;
 ghost use mathlib.Core.Path.{_≡_};
+ghost use Prim.Native.Nat.{_≤_, _<_};
 ghost use lib.Dec.{T};
-ghost use Rattle.rules.specs.Ranges.{inRange, messageInRange};
-ghost use Rattle.rules.specs.Steps.{handled, answerTo, deliver};
+ghost use Rattle.types.specs.declared.Lives.{Lives};
+ghost use Rattle.rules.specs.Ranges.{messageInRange};
+ghost use Rattle.answers.specs.Changes.{Answers, Fits, Ranged};
+ghost use Rattle.delivery.specs.Handling.{handles};
 
-// Message m is handled by the party that it is for.
-fn handle(f: Facade, m: Message) -> Answer
-    requires { ⌜ T (inRange f) × T (messageInRange (f .config) (f .next) m) ⌝ }
-    ensures { λ r. ⌜ r ≡ handled f m ⌝ }
+// Message m is handled by the party that it is for; it is taken out first if `taken`.
+fn handle(w: World, own: Server, y: Client, m: Message, taken: bool) -> Change
+    requires { ⌜ Ranged w × T (messageInRange (w .config) (w .next) m) × (T taken → 1 ≤ w .waiting) ⌝ }
+    ensures { λ x. ⌜ x ≡ handles w own y m taken ⌝ }
 {
-    let c = f.config;
+    let c = w.config;
     let to = m.receiver;
-    let os = f.offsets;
-    let r = clock_of(f.time, os, to);
+    let os = w.offsets;
+    let r = clock_of(w.time, os, to);
     if to < c.servers {
-        let at = to as usize;
-        let s = f.servers[at];
-        let x = server::receive(c, to, r, s, m);
-        return server_acts(f, to, x);
+        return server_acts(y, w, taken, server::receive(c, to, r, own, m));
     }
-    let i = to - c.servers;
-    let at = i as usize;
-    let y = f.clients[at];
     let state = y.state;
-    let x = client::receive(r, state, m);
-    client_acts(f, i, x)
+    client_acts(own, w, taken, client::receive(r, state, m))
 }
 
-pub fn deliver_step(f: Facade, s: Step) -> Answer
-    requires { ⌜ T (inRange f) × (s .kind ≡ 8) ⌝ }
-    ensures { λ r. ⌜ r ≡ answerTo f (deliver (s .first) (s .second)) ⌝ }
+pub fn deliver_step(w: World, own: Server, y: Client, m: Message, s: Step) -> Change
+    requires { ⌜ Ranged w × (s .kind ≡ 8) × (s .first < w .waiting → T (messageInRange (w .config) (w .next) m)) ⌝ }
+    ensures { λ x. ⌜ ((l : Lives) → Answers w l own y m s x) × Fits w s x ⌝ }
 {
-    let p = s.first;
     if !fields_in_range(s) {
-        return refused(f, 5);
+        return refused(w, own, y, 5);
     }
-    if f.waiting <= p {
-        return refused(f, 6);
+    if w.waiting <= s.first {
+        return refused(w, own, y, 6);
     }
-    let at = p as usize;
-    let m = f.messages[at];
-    let g = take_out(f, p, s.second);
-    unless_full(f, handle(g, m))
+    handle(w, own, y, m, s.second == 0)
 }

@@ -1,42 +1,50 @@
-// The world around servers and clients: true time, clocks, notices and waiting messages, the refusals, and the ten steps.
-use answers::accepted;
+// A whole facade: fresh, a step of any kind, and how many clients hold.
 use answers::refused;
-use answers::server_acts;
-use answers::unless_full;
-use arith::as_signed;
 use arith::both;
 use asking::discover_step;
 use asking::renew_step;
 use asking::request_step;
-use cable::without;
+use cable::exchange;
 use client::is_holding;
-use clocks::clock_of;
-use clocks::does_clock_allow;
-use clocks::end_holds;
-use clocks::is_credible_notice;
-use clocks::is_in_touch;
-use clocks::move_on;
-use clocks::row_now;
+use clocks::holds_after;
 use delivery::deliver_step;
+use events::cleanup_step;
+use events::fail_step;
+use events::lose_step;
+use events::notice_step;
+use events::pass_step;
+use events::return_step;
 use ranges::config_in_range;
 use ranges::facade_in_range;
-use ranges::fields_in_range;
 use types::Answer;
+use types::Change;
 use types::Client;
 use types::Config;
 use types::Facade;
+use types::Lives;
+use types::Message;
+use types::Server;
 use types::State;
 use types::Step;
+use types::World;
+use world::client_place;
+use world::facade_of;
+use world::lives_of;
+use world::message_place;
+use world::server_place;
+use world::world_of;
 ghost use mathlib.Core.Path.{_≡_};
 ghost use mathlib.Core.Bool.{cond};
-ghost use Prim.Native.Nat.{_+_, _≤_, _<_};
+ghost use Prim.Native.Nat.{_+_, _<_};
 ghost use lib.Dec.{T, ltb};
+ghost use lib.ListN.{getD};
 ghost use Rattle.rules.specs.Conditions.{_and_};
-ghost use Rattle.rules.specs.Parts.{stateAt};
+ghost use Rattle.rules.specs.Parts.{noClient};
 ghost use Rattle.rules.specs.Client.{isHolding};
-ghost use Rattle.rules.specs.Clock.{signed};
-ghost use Rattle.rules.specs.Ranges.{inRange};
-ghost use Rattle.rules.specs.Steps.{fresh as freshFacade, start, answerTo, step as stepOf, heldClients, pass, fail, return, notice, lose, cleanup};
+ghost use Rattle.rules.specs.Ranges.{inRange, messageInRange};
+ghost use Rattle.rules.specs.Steps.{fresh as freshFacade, start, refused as refusedWith, step as stepOf, heldClients};
+ghost use Rattle.answers.specs.Changes.{Answers, Fits, Ranged};
+ghost use Rattle.facade.specs.Held.{heldAmong};
 
 // Before any step. All places are filled alike.
 fn fresh_facade(c: Config) -> Facade
@@ -58,6 +66,17 @@ fn fresh_facade(c: Config) -> Facade
     }
 }
 
+// A refused step returns the facade it was given.
+fn refuse(f: Facade, n: u32) -> Answer
+    ensures { λ r. ⌜ r ≡ refusedWith f n ⌝ }
+{
+    Answer {
+        refusal: n,
+        outcome: 0,
+        facade: f,
+    }
+}
+
 // The fresh facade of a configuration, with refusal 2 where a number of it is out of range.
 pub fn fresh(c: Config) -> Answer
     ensures { λ r. ⌜ r ≡ start c ⌝ }
@@ -70,209 +89,113 @@ pub fn fresh(c: Config) -> Answer
             facade: f,
         };
     }
-    Answer {
-        refusal: 2,
-        outcome: 0,
-        facade: f,
-    }
+    refuse(f, 2)
 }
 
-// Step 1: pass.
-fn pass_step(f: Facade, s: Step) -> Answer
-    requires { ⌜ T (inRange f) × (s .kind ≡ 1) ⌝ }
-    ensures { λ r. ⌜ r ≡ answerTo f (pass (s .first) (s .second) (signed (s .third))) ⌝ }
-{
-    let c = f.config;
-    let d = s.first;
-    let p = s.second;
-    let e = as_signed(s.third);
-    if !fields_in_range(s) {
-        return refused(f, 5);
-    }
-    if c.servers + c.clients <= p {
-        return refused(f, 6);
-    }
-    if 1000000000 < f.time + d {
-        return refused(f, 8);
-    }
-    let at = p as usize;
-    if !does_clock_allow(c, f.offsets[at], d, e) {
-        return refused(f, 9);
-    }
-    if !is_in_touch(f, d) {
-        return refused(f, 10);
-    }
-    let g = move_on(f, d, p, e);
-    unless_full(f, accepted(end_holds(g), 0))
-}
-
-// Step 2: fail.
-fn fail_step(f: Facade, k: u32) -> Answer
-    requires { ⌜ T (inRange f) ⌝ }
-    ensures { λ r. ⌜ r ≡ answerTo f (fail k) ⌝ }
-{
-    if f.config.servers <= k {
-        return refused(f, 6);
-    }
-    let at = k as usize;
-    let mut s = f.servers[at];
-    if !s.alive {
-        return refused(f, 7);
-    }
-    s.alive = false;
-    s.changed = f.time;
-    let mut g = f;
-    g.servers[at] = s;
-    unless_full(f, accepted(g, 0))
-}
-
-// Step 3: return.
-fn return_step(f: Facade, k: u32) -> Answer
-    requires { ⌜ T (inRange f) ⌝ }
-    ensures { λ r. ⌜ r ≡ answerTo f (return k) ⌝ }
-{
-    if f.config.servers <= k {
-        return refused(f, 6);
-    }
-    let at = k as usize;
-    let s = f.servers[at];
-    if s.alive {
-        return refused(f, 7);
-    }
-    let os = f.offsets;
-    let x = server::come_back(clock_of(f.time, os, k), s);
-    let mut t = x.server;
-    t.alive = true;
-    t.changed = f.time;
-    let ts = f.notices;
-    let row = row_now(ts, k, f.time);
-    let mut g = f;
-    g.servers[at] = t;
-    g.notices = row;
-    unless_full(f, accepted(g, 0))
-}
-
-// Step 4: notice.
-fn notice_step(f: Facade, s: Step) -> Answer
-    requires { ⌜ T (inRange f) × (s .kind ≡ 4) ⌝ }
-    ensures { λ r. ⌜ r ≡ answerTo f (notice (s .first) (s .second) (s .third)) ⌝ }
-{
-    let c = f.config;
-    let k = s.first;
-    let j = s.second;
-    if !fields_in_range(s) {
-        return refused(f, 5);
-    }
-    if !both(k < c.servers, both(j < c.servers, !(j == k))) {
-        return refused(f, 6);
-    }
-    let at = k as usize;
-    let own = f.servers[at];
-    if !own.alive {
-        return refused(f, 7);
-    }
-    let about = j as usize;
-    let other = f.servers[about];
-    if !is_credible_notice(c, f.time, other, s.third) {
-        return refused(f, 11);
-    }
-    let mut g = f;
-    let place = (k * 4 + j) as usize;
-    g.notices[place] = f.time;
-    let os = f.offsets;
-    let x = server::notice(c, k, clock_of(f.time, os, k), own, j, s.third);
-    unless_full(f, server_acts(g, k, x))
-}
-
-// Step 9: lose.
-fn lose_step(f: Facade, p: u32) -> Answer
-    requires { ⌜ T (inRange f) ⌝ }
-    ensures { λ r. ⌜ r ≡ answerTo f (lose p) ⌝ }
-{
-    if f.waiting <= p {
-        return refused(f, 6);
-    }
-    unless_full(f, accepted(without(f, p), 0))
-}
-
-// Step 10: cleanup.
-fn cleanup_step(f: Facade, k: u32) -> Answer
-    requires { ⌜ T (inRange f) ⌝ }
-    ensures { λ r. ⌜ r ≡ answerTo f (cleanup k) ⌝ }
-{
-    let c = f.config;
-    if c.servers <= k {
-        return refused(f, 6);
-    }
-    let at = k as usize;
-    let s = f.servers[at];
-    if !s.alive {
-        return refused(f, 7);
-    }
-    let os = f.offsets;
-    let x = server::clean_up(c, clock_of(f.time, os, k), s);
-    unless_full(f, server_acts(f, k, x))
-}
-
-// A step of a facade that is known to be in range, as a fresh one is and stays: the kind number decides it.
-pub fn step_in_range(f: Facade, s: Step) -> Answer
-    requires { ⌜ T (inRange f) ⌝ }
-    ensures { λ r. ⌜ r ≡ stepOf f s ⌝ }
+// What a step changes in a facade that is in range: by its world, the lives of its servers, and the server, the client and
+// the message at hand. The kind number decides it.
+pub fn change(w: World, l: Lives, own: Server, y: Client, m: Message, s: Step) -> Change
+    requires { ⌜ Ranged w × (s .first < w .waiting → T (messageInRange (w .config) (w .next) m)) ⌝ }
+    ensures { λ x. ⌜ Answers w l own y m s x × Fits w s x ⌝ }
 {
     let kind = s.kind;
     match kind {
-        1 => pass_step(f, s),
-        2 => fail_step(f, s.first),
-        3 => return_step(f, s.first),
-        4 => notice_step(f, s),
-        5 => discover_step(f, s.first),
-        6 => request_step(f, s),
-        7 => renew_step(f, s),
-        8 => deliver_step(f, s),
-        9 => lose_step(f, s.first),
-        10 => cleanup_step(f, s.first),
-        _ => refused(f, 4),
+        1 => pass_step(w, l, own, y, s),
+        2 => fail_step(w, own, y, s),
+        3 => return_step(w, own, y, s),
+        4 => notice_step(w, l, own, y, s),
+        5 => discover_step(w, own, y, s),
+        6 => request_step(w, own, y, s),
+        7 => renew_step(w, own, y, s),
+        8 => deliver_step(w, own, y, m, s),
+        9 => lose_step(w, own, y, s),
+        10 => cleanup_step(w, own, y, s),
+        _ => refused(w, own, y, 4),
     }
 }
 
-// A step of the whole facade: the first rule broken, or the next facade and the outcome.
+// A step of a facade that is in range: it is taken apart, and put together with what changes, unless more than 128
+// messages would wait then: refusal 13, the last.
+fn step_in_range(f: Facade, s: Step) -> Answer
+    requires { ⌜ T (inRange f) ⌝ }
+    ensures { λ r. ⌜ r ≡ stepOf f s ⌝ }
+{
+    let w = world_of(f);
+    let mut ss = f.servers;
+    let mut ys = f.clients;
+    let ms = f.messages;
+    let from = message_place(s);
+    let m = ms[from];
+    let k = server_place(s, m);
+    let own = ss[k];
+    let i = client_place(f.config.servers, s, m);
+    let y = ys[i];
+    let x = change(w, lives_of(ss), own, y, m, s);
+    let g = x.world;
+    if 128 < g.waiting {
+        return refuse(f, 13);
+    }
+    let t = x.server;
+    ss[k] = t;
+    let z = x.client;
+    ys[i] = z;
+    let sent = x.outbox;
+    let zs = holds_after(f.time, g, ys);
+    let rest = exchange(ms, s.first, f.waiting, x.taken, sent);
+    let h = facade_of(g, ss, zs, rest);
+    Answer {
+        refusal: x.refusal,
+        outcome: x.outcome,
+        facade: h,
+    }
+}
+
+// The answer to a step, for every facade, kind number and fields.
 pub fn step(f: Facade, s: Step) -> Answer
     ensures { λ r. ⌜ r ≡ stepOf f s ⌝ }
 {
     if facade_in_range(f) {
         return step_in_range(f, s);
     }
-    refused(f, 2)
+    refuse(f, 2)
 }
 
-// Whether i is a client of the facade and holds.
-fn does_hold(f: Facade, i: u32) -> bool
+// Whether i is one of the clients and holds.
+fn does_hold(c: Config, ys: [Client; 32], i: u32) -> bool
     requires { ⌜ i < 32 ⌝ }
-    ensures { λ r. ⌜ r ≡ (ltb i (f .config .clients) and isHolding (stateAt f i)) ⌝ }
+    ensures { λ r. ⌜ r ≡ (ltb i (c .clients) and isHolding ((getD ys i noClient) .state)) ⌝ }
 {
     let at = i as usize;
-    let y = f.clients[at];
+    let y = ys[at];
     let state = y.state;
-    both(i < f.config.clients, is_holding(state))
+    both(i < c.clients, is_holding(state))
 }
 
 // One more if b is true.
 fn one_more_if(b: bool, n: u32) -> u32
-    requires { ⌜ n ≤ 32 ⌝ }
+    requires { ⌜ n < 32 ⌝ }
     ensures { λ r. ⌜ r ≡ cond b (n + 1) n ⌝ }
 {
     if b { n + 1 } else { n }
 }
 
-// How many clients hold.
-pub fn held(f: Facade) -> u32
-    ensures { λ r. ⌜ r ≡ heldClients f ⌝ }
+// How many of these clients hold, of which the configuration says how many there are.
+pub fn held_among(c: Config, ys: [Client; 32]) -> u32
+    ensures { λ r. ⌜ r ≡ heldAmong c ys ⌝ }
 {
     let mut n = 0;
     let mut i = 0;
     while i < 32 {
-        n = one_more_if(does_hold(f, i), n);
+        n = one_more_if(does_hold(c, ys, i), n);
         i += 1;
     }
     n
+}
+
+// How many clients of a facade hold.
+pub fn held(f: Facade) -> u32
+    ensures { λ r. ⌜ r ≡ heldClients f ⌝ }
+{
+    let ys = f.clients;
+    held_among(f.config, ys)
 }

@@ -18,20 +18,19 @@ use types::ServerAnswer;
 ghost use mathlib.Core.Path.{_≡_};
 ghost use mathlib.Core.Bool.{true, false};
 ghost use Prim.Native.Nat.{_+_, _≤_, _<_, max};
+ghost use lib.Dec.{ltb};
 ghost use lib.ListN.{getD, set, replicate};
-ghost use Rattle.rules.specs.Conditions.{all, lowest};
+ghost use Rattle.rules.specs.Conditions.{_and_, all, lowest};
 ghost use Rattle.rules.specs.Parts.{message, recordAt, withLease};
 ghost use Rattle.rules.specs.Messages.{nothing as nothingSent, post as posted, toOthers};
-ghost use Rattle.rules.specs.Server.{opened, expired, isFree, offerable, offers, onDiscover, granted, freedIfOf, dropped, onRequest, onRenew, onWrite, matchesWrite, acknowledged, onWriteAck, closed as closedWrite};
+ghost use Rattle.rules.specs.Server.{opened, expirySlack, isFree, offerable, offers, onDiscover, granted, freedIfOf, dropped, onRequest, onRenew, onWrite, matchesWrite, acknowledged, onWriteAck, closed as closedWrite};
 ghost use Rattle.rules.proofs.Kept.{Configured};
 
-// Whether the record for address a has passed by more than 2Δ.
-fn is_expired(c: Config, r: u32, s: Server, a: u32) -> bool
-    requires { ⌜ Configured c × (a < c .addresses) ⌝ }
-    ensures { λ x. ⌜ x ≡ expired c r s a ⌝ }
+// Whether the record v has passed by more than 2Δ.
+fn is_expired(c: Config, r: u32, v: u32) -> bool
+    requires { ⌜ Configured c ⌝ }
+    ensures { λ x. ⌜ x ≡ ltb (v + expirySlack c) r ⌝ }
 {
-    let at = a as usize;
-    let v = s.potlease[at];
     (v as u64) + ((2 * c.skew) as u64) < (r as u64)
 }
 
@@ -44,15 +43,13 @@ fn is_free(x: Reserved) -> bool
     }
 }
 
-// Whether address a may be offered: led, not reserved, and its record has passed.
-fn is_offerable(c: Config, r: u32, s: Server, a: u32) -> bool
-    requires { ⌜ Configured c × (a < c .addresses) ⌝ }
-    ensures { λ x. ⌜ x ≡ offerable c r s a ⌝ }
+// Whether an address may be offered: led, not reserved, and its record v has passed.
+// It takes the parts of one address, because a server handed by value is copied whole.
+fn is_offerable(c: Config, r: u32, leads: bool, state: Reserved, v: u32) -> bool
+    requires { ⌜ Configured c ⌝ }
+    ensures { λ x. ⌜ x ≡ (leads and isFree state and ltb (v + expirySlack c) r) ⌝ }
 {
-    let at = a as usize;
-    let reservation = s.reserved[at];
-    let state = reservation.state;
-    both(s.leads[at], both(is_free(state), is_expired(c, r, s, a)))
+    both(leads, both(is_free(state), is_expired(c, r, v)))
 }
 
 // The lowest address that may be offered, or the number of addresses where there is none.
@@ -63,7 +60,10 @@ fn lowest_offerable(c: Config, r: u32, s: Server) -> u32
     let n = c.addresses;
     let mut a = 0;
     while a < n {
-        if is_offerable(c, r, s, a) {
+        let at = a as usize;
+        let reservation = s.reserved[at];
+        let state = reservation.state;
+        if is_offerable(c, r, s.leads[at], state, s.potlease[at]) {
             return a;
         }
         a += 1;
@@ -225,7 +225,7 @@ pub fn on_request(
 {
     let at = a as usize;
     let kept = drop_reservations(c, q, s);
-    if both(kept.leads[at], is_expired(c, r, kept, a)) {
+    if both(kept.leads[at], is_expired(c, r, kept.potlease[at])) {
         return grant(c, k, kept, p, q, a, t, r + c.mclt);
     }
     let none = nothing();

@@ -2,3 +2,4 @@ pub mod Owed
 pub mod Lines
 pub mod Turns
 pub mod Whole
+pub mod Pieces

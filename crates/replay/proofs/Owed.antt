@@ -12,6 +12,10 @@ use Rattle.report.proofs.Laws.{Put}
 abbrev pub Owed : List ℕ → ℕ → List ℕ → List ℕ → ℕ → List ℕ → Type 0
 Owed l i v m j w = (j + length w ≡ i + length v) × (over m j w ≡ over l i v)
 
+-- the first of two pieces that are owed has room where all has
+pub fits-first : (l v m a b : List ℕ) (i j : ℕ) → Owed l i v m j (a ++ b) → i + length v ≤ length m → j + length a ≤ length m
+fits-first l v m a b i j o room = omega (arith, o .0, length-append a b)
+
 -- a first piece put: the second is owed
 pub owed-less : (l v m a b : List ℕ) (i j r : ℕ) {m₁ : List ℕ} → j + length a ≤ length m → Owed l i v m j (a ++ b) → Put m j a r m₁ → Owed l i v m₁ r b
 owed-less l v m a b i j r h o p =

@@ -1,62 +1,92 @@
 -- The turns of the run: from the lines that are owed at a place, to what is owed or put behind it.
-use mathlib.Core.Path.{_≡_}
-use mathlib.Core.List.{List, _++_}
-use Prim.Native.Nat.{ℕ, _+_, _≤_, _<_}
-use native.Mathlib.Omega.{arith}
-use lib.Dec.{T}
+use mathlib.Core.Path.{_≡_, refl}
+use mathlib.Core.Bool.{false}
+use mathlib.Core.List.{List, [], _++_}
+use Prim.Native.Nat.{ℕ, suc, _+_, _≤_, _<_}
+use lib.Dec.{ltb}
 use lib.ListN.{length}
-use Rattle.types.specs.declared.Config.{Config}
+use borrow.Author.Tests.{lt-ltb, le-ltb}
+use Rattle.types.specs.declared.Server.{Server}
+use Rattle.types.specs.declared.Client.{Client}
+use Rattle.types.specs.declared.Message.{Message}
+use Rattle.types.specs.declared.World.{World}
 use Rattle.types.specs.declared.Facade.{Facade}
 use Rattle.types.specs.declared.Answer.{Answer}
-use Rattle.types.specs.declared.Step.{Step}
-use Rattle.rules.specs.Ranges.{configInRange}
-use Rattle.rules.specs.Steps.{fresh, start, step, heldClients}
-use Rattle.rules.proofs.Ranges.{Sound, fresh-sound, step-sound}
+use Rattle.rules.specs.Steps.{step, heldClients}
+use Rattle.rules.proofs.Laws.{cond-case, length-filled}
+use Rattle.world.specs.Apart.{worldOf, facadeOf, ended, holdsAfter}
+use Rattle.facade.specs.Held.{heldAmong}
 use Rattle.script.specs.Reading.{recordAt}
 use Rattle.script.specs.declared.Record.{Record}
 use Rattle.report.specs.Lines.{recordLine, heldLine}
-use Rattle.report.proofs.Laws.{Put, record-line-short}
-use Rattle.replay.specs.Output.{answerLine, linesFrom}
-use Rattle.replay.proofs.Owed.{Owed, owed-less, owed-none}
-use Rattle.replay.proofs.Lines.{answer-line-short, last-at-the-end, stops-at, goes-past}
+use Rattle.wire.specs.Numbers.{over}
+use Rattle.report.proofs.Laws.{Put, put-none}
+use Rattle.replay.specs.declared.Progress.{Progress}
+use Rattle.replay.specs.declared.Piece.{Piece}
+use Rattle.replay.specs.Output.{before, answerLine, linesFrom, progressFrom, UnderWay}
+use Rattle.replay.proofs.Owed.{Owed, fits-first, owed-less, owed-none}
+use Rattle.replay.proofs.Lines.{ends-with, stops-with, goes-with}
 
--- the facade that a configuration in range starts with is in range, and so is one that a step gave back
+-- how many hold, of a facade taken apart
+pub held-apart : (w : World) (ss : List Server) (ys : List Client) (ms : List Message) (n : ℕ) → n ≡ heldAmong (w .config) ys → n ≡ heldClients (facadeOf w ss ys ms)
+unfolding heldClients
+held-apart w ss ys ms n e = e
 
-pub starts-sound : (c : Config) (x : Answer) → T (configInRange c) → x ≡ start c → Sound (x .facade)
-unfolding start
-starts-sound c x h e = rw e (fresh-sound c h)
+-- the clients after a step, whether true time has gone on or not
+module _ (t : ℕ) (w : World) (ys zs : List Client) where
+  pub ended-by : t < w .time → zs ≡ ended w ys → zs ≡ holdsAfter t w ys
+  unfolding holdsAfter
+  ended-by h e = rw (lt-ltb t (w .time) h) e
 
-pub stays-sound : (x : Answer) (f : Facade) (s : Step) → Sound f → x ≡ step f s → Sound (x .facade)
-stays-sound x f s h e = rw e (step-sound f s h)
+  pub stays-by : w .time ≤ t → zs ≡ ys → zs ≡ holdsAfter t w ys
+  unfolding holdsAfter
+  stays-by h e = rw (le-ltb t (w .time) h) e
 
--- what is put from the answer to a configuration on is put from the fresh facade on
-pub from-fresh : (c : Config) (x : Answer) (l m s : List ℕ) (i r : ℕ) → x ≡ start c
-    → Put l i (linesFrom (length s) (x .facade) s 29 1) r m → Put l i (linesFrom (length s) (fresh c) s 29 1) r m
-unfolding start
-from-fresh c x l m s i r e p = rw e at p
+-- the clients are as many after a step
+pub as-many-clients : (t : ℕ) (w : World) (ys : List Client) → length (holdsAfter t w ys) ≡ length ys
+unfolding holdsAfter ended
+as-many-clients t w ys = cond-case (λ (zs : List Client). length zs ≡ length ys) (ltb t (w .time)) _ _ (λ _. length-filled _ (w .config .clients) ys) (λ _. refl)
 
--- the lines from the record at p on are owed at place j of m, which is now the buffer
-module _ (l m s : List ℕ) (i j p k : ℕ) (f₀ f : Facade) (o : Owed l i (linesFrom (length s) f₀ s 29 1) m j (linesFrom (length s) f s p k)) where
-  abbrev all : List ℕ
-  all = linesFrom (length s) f₀ s 29 1
+-- The lines of the turns that are left, from record k at place p on, are owed at place j of m, which is now the buffer; there is room for them.
+module _ (l v m s : List ℕ) (i j left n p k : ℕ) (f : Facade) (u : left ≡ suc n) (o : Owed l i v m j (linesFrom left f s p k)) (room : i + length v ≤ length m) where
+  owes : Owed l i v m j (linesFrom (suc n) f s p k)
+  owes = rw u at o
 
   -- the end is reached, and the last line is put
-  pub puts-the-last : (n b : ℕ) (m₁ : List ℕ) → length s ≤ p → n ≡ heldClients f → Put m j (heldLine n) b m₁ → Put l i all b m₁
-  puts-the-last n b m₁ h e q = owed-none l all m (heldLine n) i j b (rw (last-at-the-end (length s) f s p k h, ← e) at o) q
+  pub puts-the-last : (c z : ℕ) (m₁ : List ℕ) → length s ≤ p → c ≡ heldClients f → Put m j (heldLine c) z m₁ → Put l i v z m₁
+  puts-the-last c z m₁ h e q = owed-none l v m (heldLine c) i j z (rw (ends-with n f s p k h, ← e) at owes) q
 
+  -- r is the record at p, before the end
   module _ (r : Record) (h : p < length s) (e : r ≡ recordAt s p) where
     -- the record has refusal 3, and its line and the last one are put
-    pub puts-the-stop : (n a b : ℕ) (m₁ m₂ : List ℕ) → r .refusal ≡ 3 → j + 55 ≤ length m
-        → Put m j (recordLine k 3 0 (f .time) (f .waiting)) a m₁ → n ≡ heldClients f → Put m₁ a (heldLine n) b m₂ → Put l i all b m₂
-    puts-the-stop n a b m₁ m₂ t room q d w =
+    pub puts-the-stop : (c a z : ℕ) (m₁ m₂ : List ℕ) → r .refusal ≡ 3 → Put m j (recordLine k 3 0 (f .time) (f .waiting)) a m₁
+        → c ≡ heldClients f → Put m₁ a (heldLine c) z m₂ → Put l i v z m₂
+    puts-the-stop c a z m₁ m₂ t q d w =
         let line = recordLine k 3 0 (f .time) (f .waiting) in
-        let fits : j + length line ≤ length m = omega (arith, record-line-short k 3 0 (f .time) (f .waiting)) in
-        let rest : linesFrom (length s) f s p k ≡ line ++ heldLine n = rw d (stops-at f s p k r h e t) in
-        owed-none l all m₁ (heldLine n) i a b (owed-less l all m line (heldLine n) i j a fits (rw rest at o) q) w
+        let rest : linesFrom (suc n) f s p k ≡ line ++ heldLine c = rw d (stops-with n f s p k r h e t) in
+        let two : Owed l i v m j (line ++ heldLine c) = rw rest at owes in
+        owed-none l v m₁ (heldLine c) i a z (owed-less l v m line (heldLine c) i j a (fits-first l v m line (heldLine c) i j two room) two q) w
 
-    -- any other record has its line put, of at most 55 bytes, and the lines behind it are owed
-    pub puts-one : (x : Answer) (a : ℕ) (m₁ : List ℕ) → (r .refusal ≡ 3 → ⊥) → x ≡ step f (r .step) → j + 55 ≤ length m
-        → Put m j (answerLine k x) a m₁ → (a ≤ j + 55) × Owed l i all m₁ a (linesFrom (length s) (x .facade) s (r .next) (k + 1))
-    puts-one x a m₁ t d room q =
-        let short = answer-line-short k x in
-        (omega arith, owed-less l all m (answerLine k x) _ i j a (omega arith) (rw (goes-past f s p k r h e x d t) at o) q)
+    -- any other record has its line put, and the lines behind it are owed
+    pub puts-one : (x : Answer) (a : ℕ) (m₁ : List ℕ) → (r .refusal ≡ 3 → ⊥) → x ≡ step f (r .step)
+        → Put m j (answerLine k x) a m₁ → Owed l i v m₁ a (linesFrom n (x .facade) s (r .next) (k + 1))
+    puts-one x a m₁ t d q =
+        let two = rw (goes-with n f s p k r h e x d t) at owes in
+        owed-less l v m (answerLine k x) _ i j a (fits-first l v m (answerLine k x) _ i j two room) two q
+
+-- none is left
+pub puts-none : (l v m s : List ℕ) (i j left p k : ℕ) (f : Facade) → left ≡ 0 → Owed l i v m j (linesFrom left f s p k) → Put l i v j m
+unfolding linesFrom
+puts-none l v m s i j left p k f e o = owed-none l v m [] i j j (rw e at o) (put-none m j)
+
+pub no-turn : (left : ℕ) (f : Facade) (s : List ℕ) (p k : ℕ) → left ≡ 0 → before f p k false ≡ progressFrom left f s p k
+unfolding progressFrom
+no-turn left f s p k e = rw e
+
+-- the turns of the run r, whose facade was taken apart, are done
+pub done : (l m s : List ℕ) (start most : ℕ) (r : Progress) (w : World) → w ≡ worldOf (r .facade) → (x : Piece)
+    → let f = facadeOf w (r .facade .servers) (r .facade .clients) (r .facade .messages) in
+    x .progress ≡ progressFrom most f s (r .place) (r .number) → UnderWay s (x .progress) → Put l start (linesFrom most f s (r .place) (r .number)) (x .end) m
+    → ((x .progress ≡ progressFrom most (r .facade) s (r .place) (r .number)) × UnderWay s (x .progress)
+    × (x .end ≡ start + length (linesFrom most (r .facade) s (r .place) (r .number)))) × (m ≡ over l start (linesFrom most (r .facade) s (r .place) (r .number)))
+done l m s start most r w e x a u p = ((rw e at a, u, rw e at (p .0)), rw e at (p .1))

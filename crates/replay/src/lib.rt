@@ -1,62 +1,210 @@
-// The run of a whole script: each record's step, and the lines that the rig prints, put into a lent buffer.
+// The run of a whole script: each record's step, and the lines that the rig prints, put into a lent buffer, all at once or
+// piece by piece.
+use cable::end_of;
+use cable::first_of;
+use cable::message_sent;
+use cable::place_above;
+use clocks::end_holds;
+use facade::change;
 use facade::fresh;
-use facade::held;
-use facade::step_in_range;
+use facade::held_among;
 use report::put_facade_line;
 use report::put_held_line;
 use report::put_record_line;
 use script::read_header;
 use script::record_at;
-use types::Config;
+use types::Client;
+use types::Facade;
+use types::Message;
+use types::Server;
+use types::World;
+use world::client_place;
+use world::facade_of;
+use world::lives_of;
+use world::message_place;
+use world::rest_of;
+use world::server_place;
+use world::world_of;
 ghost use mathlib.Core.Path.{_≡_};
+ghost use mathlib.Core.Bool.{false};
 ghost use Prim.Native.Nat.{_+_, _≤_};
-ghost use lib.Dec.{T};
 ghost use lib.ListN.{length};
-ghost use Rattle.rules.specs.Ranges.{configInRange};
-ghost use Rattle.rules.specs.Steps.{fresh as freshFacade};
 ghost use Rattle.wire.specs.Numbers.{over};
-ghost use Rattle.replay.specs.Output.{linesFrom, outputLength, buffer};
+ghost use Rattle.world.specs.Apart.{facadeOf};
+ghost use Rattle.replay.specs.Output.{before, linesFrom, progressFrom, firstLine, beginning, UnderWay, outputLength, buffer};
 
-// The lines of the records, from place 29 on, and the last line; they are put from place `start` on.
-fn put_lines(s: &[u8], c: Config, out: &mut [u8], start: usize) -> usize
-    requires { ⌜ T (configInRange c) × (length (now s) ≤ 65536) × (start ≤ 40) × (2097152 ≤ length (now out)) ⌝ }
-    ensures { λ r. ⌜ r ≡ start + length (linesFrom (length (now (s .entry))) (freshFacade c) (now (s .entry)) 29 1) ⌝ }
-    ensures { λ _. ⌜ now (out .exit) ≡ over (now (out .entry)) start (linesFrom (length (now (s .entry))) (freshFacade c) (now (s .entry)) 29 1) ⌝ }
+// A run under way.
+pub struct Progress {
+    pub facade: Facade,
+    // the place of the next record in the script, and its number
+    pub place: usize,
+    pub number: u32,
+    // whether the last line is put
+    pub ended: bool,
+}
+
+// A piece of output: the run behind it, and the place behind its last byte.
+pub struct Piece {
+    pub progress: Progress,
+    pub end: usize,
+}
+
+// A run whose facade is apart, put together.
+fn piece_of(
+    w: World,
+    ss: [Server; 4],
+    ys: [Client; 32],
+    ms: [Message; 128],
+    p: usize,
+    k: u32,
+    ended: bool,
+    end: usize,
+) -> Piece
+    ensures { λ r. ⌜ r ≡ record { progress = before (facadeOf w ss ys ms) p k ended; end = end } ⌝ }
 {
-    let x = fresh(c);
-    let mut f = x.facade;
+    let f = facade_of(w, ss, ys, ms);
+    let r = Progress {
+        facade: f,
+        place: p,
+        number: k,
+        ended: ended,
+    };
+    Piece {
+        progress: r,
+        end: end,
+    }
+}
+
+// The lines of so many turns of the run r are put from place `start` on. The facade stays apart in locals, changes are put in
+// as `facade::step` does, and the messages are exchanged by the loop of `cable::exchange`, written out here: whatever is
+// handed on is copied, once for each record.
+fn put_turns(s: &[u8], r: Progress, out: &mut [u8], start: usize, most: u32) -> Piece
+    requires { ⌜ UnderWay (now s) r × (start + length (linesFrom most (r .facade) (now s) (r .place) (r .number)) + 55 ≤ length (now out)) ⌝ }
+    ensures { λ x. ⌜ (x .progress ≡ progressFrom most (r .facade) (now (s .entry)) (r .place) (r .number)) × UnderWay (now (s .entry)) (x .progress) × (x .end ≡ start + length (linesFrom most (r .facade) (now (s .entry)) (r .place) (r .number))) ⌝ }
+    ensures { λ _. ⌜ now (out .exit) ≡ over (now (out .entry)) start (linesFrom most (r .facade) (now (s .entry)) (r .place) (r .number)) ⌝ }
+{
+    let f = r.facade;
+    let mut w = world_of(f);
+    let mut ss = f.servers;
+    let mut ys = f.clients;
+    let mut ms = f.messages;
     let mut at = start;
-    let mut p = 29;
-    let mut k = 1;
-    while p < s.len() {
-        let r = record_at(s, p);
-        if r.refusal == 3 {
-            at = put_record_line(out, at, k, 3, 0, f.time, f.waiting);
-            return put_held_line(out, at, held(f));
+    let mut p = r.place;
+    let mut k = r.number;
+    let mut left = most;
+    while 0 < left {
+        if s.len() <= p {
+            let end = put_held_line(out, at, held_among(w.config, ys));
+            return piece_of(w, ss, ys, ms, p, k, true, end);
         }
-        let x = step_in_range(f, r.step);
-        let g = x.facade;
-        at = put_record_line(out, at, k, x.refusal, x.outcome, g.time, g.waiting);
-        f = g;
-        p = r.next;
+        let d = record_at(s, p);
+        if d.refusal == 3 {
+            at = put_record_line(out, at, k, 3, 0, w.time, w.waiting);
+            let end = put_held_line(out, at, held_among(w.config, ys));
+            return piece_of(w, ss, ys, ms, p, k, true, end);
+        }
+        left -= 1;
+        let step = d.step;
+        let from = message_place(step);
+        let m = ms[from];
+        let j = server_place(step, m);
+        let own = ss[j];
+        let i = client_place(w.config.servers, step, m);
+        let y = ys[i];
+        let x = change(w, lives_of(ss), own, y, m, step);
+        let g = x.world;
+        if 128 < g.waiting {
+            at = put_record_line(out, at, k, 13, 0, w.time, w.waiting);
+            p = d.next;
+            k += 1;
+            continue;
+        }
+        let t = x.server;
+        ss[j] = t;
+        let z = x.client;
+        ys[i] = z;
+        if w.time < g.time {
+            let zs = end_holds(g, ys);
+            ys = zs;
+        }
+        let n = w.waiting;
+        let sent = x.outbox;
+        let rest = rest_of(n, x.taken);
+        let last = end_of(n, rest, sent.count);
+        let mut q = first_of(step.first, n, x.taken);
+        while q < last {
+            let to = q as usize;
+            if q < rest {
+                let up = place_above(q);
+                let above = ms[up];
+                ms[to] = above;
+                q += 1;
+                continue;
+            }
+            let one = message_sent(sent, q - rest);
+            ms[to] = one;
+            q += 1;
+        }
+        w = g;
+        at = put_record_line(out, at, k, x.refusal, x.outcome, w.time, w.waiting);
+        p = d.next;
         k += 1;
     }
-    put_held_line(out, at, held(f))
+    piece_of(w, ss, ys, ms, p, k, false, at)
+}
+
+// The first line of a script's run. The run has ended where the header is refused.
+pub fn begin(s: &[u8], out: &mut [u8]) -> Piece
+    requires { ⌜ 65536 ≤ length (now out) ⌝ }
+    ensures { λ x. ⌜ (x .progress ≡ beginning (now (s .entry))) × (x .end ≡ length (firstLine (now (s .entry)))) ⌝ }
+    ensures { λ _. ⌜ now (out .exit) ≡ over (now (out .entry)) 0 (firstLine (now (s .entry))) ⌝ }
+{
+    let h = read_header(s);
+    let x = fresh(h.config);
+    let f = x.facade;
+    let r = Progress {
+        facade: f,
+        place: 29,
+        number: 1,
+        ended: h.refusal != 0,
+    };
+    if h.refusal != 0 {
+        let end = put_record_line(out, 0, 0, h.refusal, 0, 0, 0);
+        return Piece {
+            progress: r,
+            end: end,
+        };
+    }
+    let end = put_facade_line(out, 0, h.config);
+    Piece {
+        progress: r,
+        end: end,
+    }
+}
+
+// The next piece of a run under way: the lines of 2,048 turns, put at the front of the buffer.
+pub fn go_on(s: &[u8], r: Progress, out: &mut [u8]) -> Piece
+    requires { ⌜ UnderWay (now s) r × (r .ended ≡ false) × (65536 ≤ length (now out)) ⌝ }
+    ensures { λ x. ⌜ (x .progress ≡ progressFrom 2048 (r .facade) (now (s .entry)) (r .place) (r .number)) × UnderWay (now (s .entry)) (x .progress) × (x .end ≡ length (linesFrom 2048 (r .facade) (now (s .entry)) (r .place) (r .number))) ⌝ }
+    ensures { λ _. ⌜ now (out .exit) ≡ over (now (out .entry)) 0 (linesFrom 2048 (r .facade) (now (s .entry)) (r .place) (r .number)) ⌝ }
+{
+    put_turns(s, r, out, 0, 2048)
 }
 
 // Runs a script and answers how long its output is, which is put at the front of the buffer. A buffer of less than
-// 2,097,152 bytes is left as it is.
+// 1,048,576 bytes is left as it is.
 pub fn run(s: &[u8], out: &mut [u8]) -> usize
     ensures { λ r. ⌜ r ≡ outputLength (now (s .entry)) (length (now (out .entry))) ⌝ }
     ensures { λ _. ⌜ now (out .exit) ≡ buffer (now (s .entry)) (now (out .entry)) ⌝ }
 {
-    if out.len() < 2097152 {
+    if out.len() < 1048576 {
         return 0;
     }
-    let h = read_header(s);
-    if h.refusal != 0 {
-        return put_record_line(out, 0, 0, h.refusal, 0, 0, 0);
+    let first = begin(s, out);
+    let r = first.progress;
+    if r.ended {
+        return first.end;
     }
-    let at = put_facade_line(out, 0, h.config);
-    put_lines(s, h.config, out, at)
+    let all = put_turns(s, r, out, first.end, s.len() as u32 + 1);
+    all.end
 }

@@ -1,8 +1,7 @@
 -- The digits of a number, case by case; the most bytes of each line; pieces put one behind the other.
 use mathlib.Core.Path.{_≡_}
-use mathlib.Core.Bool.{Bool, true, false, cond}
 use mathlib.Core.List.{List, [], _∷_, _++_, append-assoc}
-use Prim.Native.Nat.{ℕ, zero, suc, _+_, _-_, _/_, _%_, _≤_, _<_}
+use Prim.Native.Nat.{ℕ, zero, suc, _+_, _-_, _*_, _/_, _%_, _≤_, _<_}
 use native.Mathlib.Omega.{arith}
 use borrow.Author.Tests.{lt-ltb, le-ltb}
 use lib.Dec.{ltb}
@@ -10,6 +9,7 @@ use lib.ListN.{length, length-append}
 use Rattle.wire.specs.Numbers.{over}
 use Rattle.wire.proofs.Over.{over-then, over-none}
 use Rattle.types.specs.declared.Config.{Config}
+use Rattle.rules.proofs.Laws.{cond-case}
 use Rattle.report.specs.Lines.{digits, recordLine, facadeLine, heldLine}
 
 -- no place, no digit
@@ -35,17 +35,35 @@ digits-more (suc k) n p h =
 pub digits-few : (k n : ℕ) → length (digits k n) ≤ k
 unfolding digits
 digits-few zero n = omega arith
-digits-few (suc k) n = go (ltb n 10) (digits-few k (n / 10))
-  where
-    go : (b : Bool) → length (digits k (n / 10)) ≤ k → length (cond b ((48 + n) ∷ []) (digits k (n / 10) ++ ((48 + n % 10) ∷ []))) ≤ suc k
-    go true h = omega arith
-    go false h = simp length-append (omega arith)
+digits-few (suc k) n =
+    cond-case (λ (l : List ℕ). length l ≤ suc k) (ltb n 10) _ _ (λ _. omega arith)
+    (λ _. simp length-append (omega (arith, digits-few k (n / 10))))
 
--- the most bytes of each line: ten digits a number
-pub record-line-short : (k r o t w : ℕ) → length (recordLine k r o t w) ≤ 55
-unfolding recordLine
-record-line-short k r o t w =
-    simp length-append (omega (arith, digits-few 10 k, digits-few 10 r, digits-few 10 o, digits-few 10 t, digits-few 10 w))
+-- 10 to the power i
+unfoldable tens : ℕ → ℕ
+tens zero = 1
+tens (suc i) = 10 * tens i
+
+-- a number below 10 to the power i has at most i digits, for i from 1
+digits-short : (i k n : ℕ) → n < tens (suc i) → length (digits k n) ≤ suc i
+unfolding digits tens
+digits-short i zero n h = omega arith
+digits-short zero (suc k) n h = rw (lt-ltb n 10 (omega arith)) (omega arith)
+digits-short (suc i) (suc k) n h =
+    cond-case (λ (l : List ℕ). length l ≤ suc (suc i)) (ltb n 10) _ _ (λ _. omega arith)
+    (λ _. simp length-append (omega (arith, digits-short i k (n / 10) (omega arith))))
+
+-- The most bytes of each line: 26 where the number of the record has at most five digits, its refusal two, its outcome one
+-- and the waiting messages three; and ten digits a number in the first and the last line.
+
+pub record-line-short : (k r o t w : ℕ) → k ≤ 99999 → r ≤ 99 → o ≤ 9 → w ≤ 999 → length (recordLine k r o t w) ≤ 26
+unfolding recordLine tens
+record-line-short k r o t w hk hr ho hw =
+    let k₅ = digits-short 4 10 k (omega arith) in
+    let r₂ = digits-short 1 10 r (omega arith) in
+    let o₁ = digits-short 0 10 o (omega arith) in
+    let w₃ = digits-short 2 10 w (omega arith) in
+    simp length-append (omega (arith, k₅, r₂, o₁, digits-few 10 t, w₃))
 
 pub facade-line-short : (c : Config) → length (facadeLine c) ≤ 40
 unfolding facadeLine

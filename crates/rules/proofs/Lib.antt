@@ -15,3 +15,4 @@ pub mod Safety
 pub mod Refusals
 pub mod Counts
 pub mod Actions
+pub mod Bounds

@@ -52,11 +52,23 @@ pub fn cleared(alive: bool, changed: u32, returned: u32, records: [u32; 32]) -> 
 }
 
 // The server when it comes back: records survive, and all else of its own is as new.
+// Cleared in a loop, because arrays written out make the compiler take the server apart into many pieces.
 pub fn come_back(r: u32, s: Server) -> ServerAnswer
     ensures { λ x. ⌜ x ≡ afterReturn r s ⌝ }
 {
-    let records = s.potlease;
-    let t = cleared(s.alive, s.changed, r, records);
+    let mut t = s;
+    t.returned = r;
+    t.believed = [true; 4];
+    let mut a = 0;
+    while a < 32 {
+        t.leads[a] = false;
+        t.reserved[a] = Reservation {
+            state: Reserved::Free,
+        };
+        t.lent[a] = 0;
+        t.writes[a] = closed();
+        a += 1;
+    }
     let none = nothing();
     ServerAnswer {
         server: t,

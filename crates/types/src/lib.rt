@@ -1,4 +1,5 @@
-// The data of document 01, and what the parties answer. A comment names the term of the paper where it differs.
+// The data of document 01, what the parties answer, and the parts that a facade is taken apart into for a step.
+// A comment names the term of the paper where it differs.
 
 // The configuration: how many there are of each, and the four times.
 pub struct Config {
@@ -151,5 +152,34 @@ pub struct ServerAnswer {
 pub struct ClientAnswer {
     pub client: Client,
     pub outcome: u32,
+    pub outbox: Outbox,
+}
+
+// A facade but for its servers, its clients and its messages.
+pub struct World {
+    pub config: Config,
+    pub time: u32,
+    pub next: u32,
+    pub offsets: [i32; 36],
+    pub notices: [u32; 16],
+    pub waiting: u32,
+}
+
+// Of each server whether it is alive, and c, the true time of the last change.
+pub struct Lives {
+    pub alive: [bool; 4],
+    pub changed: [u32; 4],
+}
+
+// What a step changes. At hand are the one server, client and message that the step concerns: see crate `world`.
+// The refusal or 0 and the outcome are those of the answer, unless more than 128 messages would wait (13); the world, the server and the client at hand are as after the step;
+// `taken` says whether the message at hand is taken out, and the outbox has what is sent.
+pub struct Change {
+    pub refusal: u32,
+    pub outcome: u32,
+    pub world: World,
+    pub server: Server,
+    pub client: Client,
+    pub taken: bool,
     pub outbox: Outbox,
 }

@@ -54,6 +54,6 @@ fn main() {
     let count = next_number(&mut four);
     // one byte more than the longest script, so that a longer one is seen to be longer
     let mut script = [0u8; 65537];
-    let mut out = [0u8; 2097152];
+    let mut out = [0u8; 1048576];
     run_all(count, &mut script, &mut out);
 }

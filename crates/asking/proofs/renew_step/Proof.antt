@@ -1,11 +1,26 @@
-use mathlib.Core.Path.{_∙_}
+use mathlib.Core.Path.{_≡_, refl, sym, _∙_}
+use mathlib.Core.Bool.{false}
+use Prim.Native.Nat.{_+_}
+use native.Mathlib.Omega.{arith}
 use borrow.Author.Needs.{needs}
 use borrow.Author.Tests.{lt-ltb, le-ltb}
+use lib.Dec.{eqb}
+use Rattle.types.specs.declared.Facade.{Facade}
+use Rattle.rules.specs.Steps.{renew, answerTo, step}
+use Rattle.rules.proofs.Actions.{action-renew}
 use Rattle.rules.proofs.Counts.{few-renews}
-use Rattle.asking.proofs.Laws.{renew-5, renew-6, renew-7, renew-12, renew-last, client-below, client-asks, client-sends, renew-fields, renew-does}
-use Rattle.answers.proofs.Laws.{next-high, sizes, holds, fails}
+use Rattle.answers.proofs.Laws.{sizes, next-high, waiting-high, holds, fails, step-is, gives-refusal, gives-client, client-at}
+use Rattle.world.specs.Apart.{nextIn}
+use Rattle.asking.proofs.Laws.{renew-fields, renew-5, renew-6, renew-7, renew-12, renew-last, client-low}
 use Rattle.asking.proofs.renew_step.Statement.{statement}
 use Rattle.asking.proofs.renew_step.Tie as tie
+
+-- the step is a renewal
+is : (c : tie.Start) (f : Facade) → answerTo f (renew (c .args .s .first) (c .args .s .second)) ≡ step f (c .args .s)
+is c f = step-is f (c .args .s) _ (action-renew (c .args .s) (c .pre .1))
+
+no-delivery : (c : tie.Start) → eqb (c .args .s .kind) 8 ≡ false
+no-delivery c = rw (c .pre .1)
 
 fields-in-range-requires : tie.Need-fields-in-range-requires
 fields-in-range-requires c κs = search needs
@@ -15,29 +30,23 @@ refused-requires c κs = search needs
 
 returns : tie.Need-returns
 returns c =
-    let start = c .before .before .before .before in
-    c .refused .ensures
-    ∙ renew-5 _ (start .pre .0) _ _ (fails (renew-fields _ (start .pre .1) (c .before .before .fields-in-range .ensures)) (c .before .if1 .taken))
+    let first = c .before in
+    let start = first .before .before .before in
+    let s = start .args .s in
+    gives-refusal _ _ _ s 5 _ (c .refused .ensures)
+    (λ l m ss ys ms h. renew-5 _ (h .sound .0) _ _ (fails (renew-fields s (start .pre .1) (first .before .fields-in-range .ensures)) (first .if1 .taken)) ∙ is start _)
 
 refused-requires-2 : tie.Need-refused-requires-2
 refused-requires-2 c κs = search needs
 
 returns-2 : tie.Need-returns-2
 returns-2 c =
-    let first = c .before .before .before in
+    let second = c .before in
+    let first = second .before .before in
     let start = first .before .before .before in
-    c .refused2 .ensures
-    ∙ renew-6 _ (start .pre .0) _ _ (holds (renew-fields _ (start .pre .1) (first .before .fields-in-range .ensures)) (first .if1 .left))
-    (le-ltb _ _ (c .before .if2 .taken))
-
-cast-at : tie.Need-cast-at
-cast-at c = search needs
-
-mul-y : tie.Need-mul-y
-mul-y c = search needs
-
-element-copy-out-y : tie.Need-element-copy-out-y
-element-copy-out-y c = client-below _ (c .before .before .before .before .before .pre .0) _ (c .if2 .left)
+    let s = start .args .s in
+    let e₅ = holds (renew-fields s (start .pre .1) (first .before .fields-in-range .ensures)) (first .if1 .left) in
+    gives-refusal _ _ _ s 6 _ (c .refused2 .ensures) (λ l m ss ys ms h. renew-6 _ (h .sound .0) _ _ e₅ (le-ltb _ _ (second .if2 .taken)) ∙ is start _)
 
 is-holding-requires : tie.Need-is-holding-requires
 is-holding-requires c κs = search needs
@@ -48,12 +57,14 @@ refused-requires-3 c κs = search needs
 returns-3 : tie.Need-returns-3
 returns-3 c =
     let third = c .before in
-    let second = third .before .before .before in
+    let second = third .before .before in
     let first = second .before .before in
     let start = first .before .before .before in
-    c .refused3 .ensures
-    ∙ renew-7 _ (start .pre .0) _ _ (holds (renew-fields _ (start .pre .1) (first .before .fields-in-range .ensures)) (first .if1 .left))
-    (lt-ltb _ _ (second .if2 .left)) (fails (third .before .is-holding .ensures) (third .if3 .taken))
+    let s = start .args .s in
+    let e₅ = holds (renew-fields s (start .pre .1) (first .before .fields-in-range .ensures)) (first .if1 .left) in
+    gives-refusal _ _ _ s 7 _ (c .refused3 .ensures)
+    (λ l m ss ys ms h. renew-7 _ (h .sound .0) _ _ e₅ (lt-ltb _ _ (second .if2 .left)) _ (client-at h (no-delivery start) (client-low _ (h .sound .0) _ (second .if2 .left)))
+    (fails (third .before .is-holding .ensures) (third .if3 .taken)) ∙ is start _)
 
 is-interaction-left-requires : tie.Need-is-interaction-left-requires
 is-interaction-left-requires c κs = search needs
@@ -65,40 +76,45 @@ returns-4 : tie.Need-returns-4
 returns-4 c =
     let fourth = c .before in
     let third = fourth .before .before in
-    let second = third .before .before .before in
+    let second = third .before .before in
     let first = second .before .before in
     let start = first .before .before .before in
-    c .refused4 .ensures
-    ∙ renew-12 _ (start .pre .0) _ _ (holds (renew-fields _ (start .pre .1) (first .before .fields-in-range .ensures)) (first .if1 .left))
-    (lt-ltb _ _ (second .if2 .left)) (holds (third .before .is-holding .ensures) (third .if3 .left)) (fails (fourth .before .is-interaction-left .ensures) (fourth .if4 .taken))
+    let s = start .args .s in
+    let e₅ = holds (renew-fields s (start .pre .1) (first .before .fields-in-range .ensures)) (first .if1 .left) in
+    gives-refusal _ _ _ s 12 _ (c .refused4 .ensures)
+    (λ l m ss ys ms h. renew-12 _ (h .sound .0) _ _ e₅ (lt-ltb _ _ (second .if2 .left)) _ (client-at h (no-delivery start) (client-low _ (h .sound .0) _ (second .if2 .left)))
+    (holds (third .before .is-holding .ensures) (third .if3 .left)) (fails (fourth .before .is-interaction-left .ensures) (fourth .if4 .taken)) ∙ is start _)
+
+add-g : tie.Need-add-g
+add-g c = omega (arith, next-high _ (c .before .before .before .before .before .before .before .before .before .before .pre .0 .sound .0))
 
 renew-requires : tie.Need-renew-requires
 renew-requires c κs =
     let second = c .before .before .before .before .before in
-    client-asks _ (second .before .before .before .before .before .pre .0) _ (second .if2 .left)
-
-add-g : tie.Need-add-g
-add-g c = search (next-high _ (c .before .before .before .before .before .before .before .before .before .before .before .pre .0), needs)
+    (sizes _ (second .before .before .before .before .before .pre .0 .sound .0), second .if2 .left)
 
 client-acts-requires : tie.Need-client-acts-requires
 client-acts-requires c κs =
     let second = c .before .before .before .before .before .before in
-    let start = second .before .before .before .before .before in
-    client-sends _ (start .pre .0) _ (second .if2 .left) _ _ (c .renew .ensures) (few-renews _ _ (sizes _ (start .pre .0) .servers-high) _ _ _)
-
-unless-full-requires : tie.Need-unless-full-requires
-unless-full-requires c κs = search needs
+    let t = second .before .before .before .before .before .pre .0 .sound .0 in
+    (waiting-high _ t, rw (c .renew .ensures) (few-renews _ _ (sizes _ t .servers-high) _ _ _), λ b. absurd b)
 
 returns-5 : tie.Need-returns-5
 returns-5 c =
     let fourth = c .before .before .before in
     let third = fourth .before .before in
-    let second = third .before .before .before in
+    let second = third .before .before in
     let first = second .before .before in
     let start = first .before .before .before in
-    renew-last _ (start .pre .0) _ _ (holds (renew-fields _ (start .pre .1) (first .before .fields-in-range .ensures)) (first .if1 .left))
-    (lt-ltb _ _ (second .if2 .left)) (holds (third .before .is-holding .ensures) (third .if3 .left)) (holds (fourth .before .is-interaction-left .ensures) (fourth .if4 .left)) _ _ (c .unless-full .ensures)
-    (renew-does _ _ _ _ _ (c .before .before .renew .ensures) (c .before .client-acts .ensures))
+    let s = start .args .s in
+    let w = start .args .w in
+    let t = start .pre .0 .sound .0 in
+    let x = c .before .renew in
+    let e₅ = holds (renew-fields s (start .pre .1) (first .before .fields-in-range .ensures)) (first .if1 .left) in
+    gives-client w _ _ s (no-delivery start) (nextIn w (w .next + 1)) refl refl (client-low _ t _ (second .if2 .left)) (x .result) _ (c .client-acts .ensures)
+    (rw (x .ensures) (few-renews _ _ (sizes _ t .servers-high) _ _ _))
+    (λ ss ys ms u at. renew-last _ u _ _ e₅ (lt-ltb _ _ (second .if2 .left)) _ at (holds (third .before .is-holding .ensures) (third .if3 .left))
+    (holds (fourth .before .is-interaction-left .ensures) (fourth .if4 .left)) _ (x .ensures) ∙ is start _)
 
 pub renew-step-spec : {M : Type 1} → statement M
 renew-step-spec =
@@ -109,17 +125,13 @@ renew-step-spec =
     returns
     refused-requires-2
     returns-2
-    cast-at
-    mul-y
-    element-copy-out-y
     is-holding-requires
     refused-requires-3
     returns-3
     is-interaction-left-requires
     refused-requires-4
     returns-4
-    renew-requires
     add-g
+    renew-requires
     client-acts-requires
-    unless-full-requires
     returns-5)

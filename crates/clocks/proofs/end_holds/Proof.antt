@@ -2,18 +2,18 @@ use mathlib.Core.Path.{_≡_}
 use Prim.Native.Nat.{_-_, _≤_}
 use native.Mathlib.Omega.{arith}
 use borrow.Author.Needs.{needs}
-use Rattle.clocks.proofs.Laws.{lapsedBelow, lapsed-none, lapsed-more, lapsed-all}
+use Rattle.clocks.proofs.Laws.{endedBelow, ended-none, ended-more, ended-all}
 use Rattle.clocks.proofs.end_holds.Statement.{statement}
 use Rattle.clocks.proofs.end_holds.Tie as tie
 
 abbrev Inv-loop : tie.InvT-loop
-Inv-loop f c count os g₀ i₀ g i = (i ≤ count) × (count ≤ 32) × (g ≡ lapsedBelow f i)
+Inv-loop w ys c count os out₀ i₀ out i = (i ≤ count) × (count ≤ 32) × (out ≡ endedBelow w ys i)
 
 abbrev μ-loop : tie.MeasureT-loop
-μ-loop f c count os g₀ i₀ g i = count - i
+μ-loop w ys c count os out₀ i₀ out i = count - i
 
 loop-holds : tie.Need-loop-holds Inv-loop μ-loop
-loop-holds c = (omega arith, omega arith, lapsed-none _)
+loop-holds c = (omega arith, omega arith, ended-none _ _)
 
 cast-at : tie.Need-cast-at Inv-loop μ-loop
 cast-at c = omega arith
@@ -21,8 +21,8 @@ cast-at c = omega arith
 mul-y : tie.Need-mul-y Inv-loop μ-loop
 mul-y c = omega arith
 
-element-copy-out-y : tie.Need-element-copy-out-y Inv-loop μ-loop
-element-copy-out-y c = omega arith
+array-copy-out-y : tie.Need-array-copy-out-y Inv-loop μ-loop
+array-copy-out-y c = omega arith
 
 add-clock-of : tie.Need-add-clock-of Inv-loop μ-loop
 add-clock-of c = omega arith
@@ -33,11 +33,11 @@ clock-of-requires c κs = omega arith
 lapse-requires : tie.Need-lapse-requires Inv-loop μ-loop
 lapse-requires c κs = search needs
 
-mul-t14 : tie.Need-mul-t14 Inv-loop μ-loop
-mul-t14 c = omega arith
+mul-out : tie.Need-mul-out Inv-loop μ-loop
+mul-out c = omega arith
 
-element-set-from-g : tie.Need-element-set-from-g Inv-loop μ-loop
-element-set-from-g c = omega arith
+array-set-from-out : tie.Need-array-set-from-out Inv-loop μ-loop
+array-set-from-out c = omega arith
 
 add-i : tie.Need-add-i Inv-loop μ-loop
 add-i c = omega arith
@@ -46,10 +46,10 @@ loop-less : tie.Need-loop-less Inv-loop μ-loop
 loop-less c = omega arith
 
 loop-again : tie.Need-loop-again Inv-loop μ-loop
-loop-again c = (omega arith, omega arith, lapsed-more _ _ _ _ _ (c .before .before .before .before .before .loop .inv .2) (c .before .clock-of .ensures) (c .lapse .ensures))
+loop-again c = (omega arith, omega arith, ended-more _ _ _ _ _ _ (c .before .before .before .before .before .loop .inv .2) (c .before .clock-of .ensures) (c .lapse .ensures))
 
 returns : tie.Need-returns Inv-loop μ-loop
-returns c = lapsed-all _ _ _ (omega arith) (c .before .loop .inv .2)
+returns c = ended-all _ _ _ _ (omega arith) (c .before .loop .inv .2)
 
 pub end-holds-spec : {M : Type 1} → statement M
 end-holds-spec =
@@ -60,12 +60,12 @@ end-holds-spec =
     loop-holds
     cast-at
     mul-y
-    element-copy-out-y
+    array-copy-out-y
     add-clock-of
     clock-of-requires
     lapse-requires
-    mul-t14
-    element-set-from-g
+    mul-out
+    array-set-from-out
     add-i
     loop-less
     loop-again

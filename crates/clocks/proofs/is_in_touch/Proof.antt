@@ -1,26 +1,22 @@
 use mathlib.Core.Path.{_≡_, refl, _∙_}
-use mathlib.Core.Bool.{not}
-use Prim.Native.Nat.{_+_, _-_, _≤_}
+use mathlib.Core.Bool.{false, not}
+use Prim.Native.Nat.{_+_, _*_, _-_, _≤_}
 use native.Mathlib.Omega.{arith}
 use lib.Dec.{eqb, leb}
+use lib.ListN.{getD}
 use borrow.Author.Needs.{needs}
 use Rattle.rules.specs.Conditions.{_or_, all}
-use Rattle.rules.specs.Parts.{noticeAt, serverAt}
-use Rattle.rules.specs.Steps.{inTouch}
 use Rattle.rules.proofs.Laws.{all-more, all-done}
 use Rattle.clocks.proofs.is_in_touch.Statement.{statement}
 use Rattle.clocks.proofs.is_in_touch.Tie as tie
 
 abbrev Inv-loop : tie.InvT-loop
-Inv-loop d f c ts now count ok₀ k₀ ok k =
+Inv-loop c ts now alive count ok₀ k₀ ok k =
     (k ≤ count) × (count ≤ 4)
-    × (ok ≡ all (λ i. not ((serverAt f i) .alive) or all (λ j. eqb j i or leb now (noticeAt f i j + c .silence)) (c .servers)) k)
+    × (ok ≡ all (λ i. not (getD alive i false) or all (λ j. eqb j i or leb now (getD ts (i * 4 + j) 0 + c .silence)) (c .servers)) k)
 
 abbrev μ-loop : tie.MeasureT-loop
-μ-loop d f c ts now count ok₀ k₀ ok k = count - k
-
-add-now : tie.Need-add-now Inv-loop μ-loop
-add-now c = omega arith
+μ-loop c ts now alive count ok₀ k₀ ok k = count - k
 
 loop-holds : tie.Need-loop-holds Inv-loop μ-loop
 unfolding all
@@ -29,11 +25,8 @@ loop-holds c = (omega arith, omega arith, refl)
 cast-at : tie.Need-cast-at Inv-loop μ-loop
 cast-at c = omega arith
 
-mul-s : tie.Need-mul-s Inv-loop μ-loop
-mul-s c = omega arith
-
-element-copy-out-s : tie.Need-element-copy-out-s Inv-loop μ-loop
-element-copy-out-s c = omega arith
+array-read-either : tie.Need-array-read-either Inv-loop μ-loop
+array-read-either c = omega arith
 
 is-heard-by-requires : tie.Need-is-heard-by-requires Inv-loop μ-loop
 is-heard-by-requires c κs = omega arith
@@ -51,11 +44,10 @@ loop-less : tie.Need-loop-less Inv-loop μ-loop
 loop-less c = omega arith
 
 loop-again : tie.Need-loop-again Inv-loop μ-loop
-loop-again c = (omega arith, omega arith, all-more _ _ _ _ _ (c .before .either .ensures ∙ rw (c .before .before .is-heard-by .ensures)) (c .before .before .before .before .before .before .loop .inv .2) (c .both .ensures))
+loop-again c = (omega arith, omega arith, all-more _ _ _ _ _ (c .before .either .ensures ∙ rw (c .before .before .is-heard-by .ensures)) (c .before .before .before .before .loop .inv .2) (c .both .ensures))
 
 returns : tie.Need-returns Inv-loop μ-loop
-unfolding inTouch
-returns c = λ p e. all-done _ _ _ _ (omega arith) (c .before .loop .inv .2)
+returns c = all-done _ _ _ _ (omega arith) (c .before .loop .inv .2)
 
 pub is-in-touch-spec : {M : Type 1} → statement M
 is-in-touch-spec =
@@ -63,11 +55,9 @@ is-in-touch-spec =
     (tie.spec
     Inv-loop
     μ-loop
-    add-now
     loop-holds
     cast-at
-    mul-s
-    element-copy-out-s
+    array-read-either
     is-heard-by-requires
     either-requires
     both-requires

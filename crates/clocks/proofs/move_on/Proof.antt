@@ -1,5 +1,4 @@
 use Prim.Native.Nat.{_+_}
-use Rattle.rules.specs.Parts.{withTime}
 use Rattle.arith.proofs.Signs.{sum-fits}
 use mathlib.Core.Path.{_≡_, ap, _∙_}
 use mir.Syntax.{w32}
@@ -8,6 +7,7 @@ use mir.Facts.{toZ-ofZ}
 use lib.IntN.{ℤ, pos, _+ℤ_}
 use lib.ListN.{getD, set}
 use borrow.Author.Needs.{needs}
+use Rattle.world.specs.Apart.{timeIn}
 use Rattle.clocks.proofs.move_on.Statement.{statement}
 use Rattle.clocks.proofs.move_on.Tie as tie
 
@@ -36,7 +36,7 @@ returns c =
     let h : SFits w32 (getD (a .t1 .offsets) (a .p) (pos 0)) = search needs in
     let sum : c .shifted .result ≡ getD (a .t1 .offsets) (a .p) (pos 0) +ℤ a .e = c .shifted .ensures ∙ rw (toZ-ofZ h, toZ-ofZ (s .fits .e)) in
     let fit : SFits w32 (c .shifted .result) = rw sum (sum-fits (getD (a .t1 .offsets) (a .p) (pos 0)) (a .e) (s .pre .2) (s .pre .3)) in
-    ap (λ (o : ℤ). withTime (a .t1) (a .t1 .time + a .d) (set (a .t1 .offsets) (a .p) o)) (toZ-ofZ fit ∙ sum)
+    ap (λ (o : ℤ). timeIn (a .t1) (a .t1 .time + a .d) (set (a .t1 .offsets) (a .p) o)) (toZ-ofZ fit ∙ sum)
 
 pub move-on-spec : {M : Type 1} → statement M
 move-on-spec =

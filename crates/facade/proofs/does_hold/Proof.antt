@@ -5,8 +5,8 @@ use Rattle.facade.proofs.does_hold.Tie as tie
 mul-y : tie.Need-mul-y
 mul-y c = search needs
 
-element-copy-out-y : tie.Need-element-copy-out-y
-element-copy-out-y c = search needs
+array-copy-out-y : tie.Need-array-copy-out-y
+array-copy-out-y c = search needs
 
 is-holding-requires : tie.Need-is-holding-requires
 is-holding-requires c κs = search needs
@@ -19,4 +19,4 @@ returns c = rw (← c .before .is-holding .ensures) (c .both .ensures)
 
 pub does-hold-spec : {M : Type 1} → statement M
 does-hold-spec =
-    tie.close (tie.spec mul-y element-copy-out-y is-holding-requires both-requires returns)
+    tie.close (tie.spec mul-y array-copy-out-y is-holding-requires both-requires returns)

@@ -15,9 +15,13 @@ returns : tie.Need-returns
 unfolding start unless
 returns c = rw (sym (c .before .config-in-range .ensures) ∙ c .if1 .taken, c .before .before .fresh-facade .ensures)
 
+refuse-requires : tie.Need-refuse-requires
+refuse-requires c κs = search needs
+
 returns-2 : tie.Need-returns-2
 unfolding start unless
-returns-2 c = rw (sym (c .before .config-in-range .ensures) ∙ c .if1 .left, c .before .before .fresh-facade .ensures)
+returns-2 c =
+    rw (c .refuse .ensures, sym (c .before .before .config-in-range .ensures) ∙ c .before .if1 .left, c .before .before .before .fresh-facade .ensures)
 
 pub fresh-spec : {M : Type 1} → statement M
-fresh-spec = tie.close (tie.spec fresh-facade-requires config-in-range-requires returns returns-2)
+fresh-spec = tie.close (tie.spec fresh-facade-requires config-in-range-requires returns refuse-requires returns-2)

@@ -1,7 +1,8 @@
 use mathlib.Core.Path.{refl, sym, _∙_}
 use Rattle.rules.specs.Steps.{action}
 use Rattle.rules.proofs.Refusals.{refused-2}
-use Rattle.facade.proofs.Laws.{to-T, step-is}
+use Rattle.answers.proofs.Laws.{step-is}
+use Rattle.facade.proofs.Laws.{to-T}
 use borrow.Author.Needs.{needs}
 use Rattle.facade.proofs.step.Statement.{statement}
 use Rattle.facade.proofs.step.Tie as tie
@@ -15,14 +16,15 @@ step-in-range-requires c κs = to-T _ (sym (c .before .facade-in-range .ensures)
 returns : tie.Need-returns
 returns c = search needs
 
-refused-requires : tie.Need-refused-requires
-refused-requires c κs = search needs
+refuse-requires : tie.Need-refuse-requires
+refuse-requires c κs = search needs
 
 returns-2 : tie.Need-returns-2
-returns-2 c = let a = c .before .before .before .args in
-    c .refused .ensures ∙ refused-2 (a .f) (action (a .s)) (sym (c .before .before .facade-in-range .ensures) ∙ c .before .if1 .left) ∙ step-is _ (a .s) _ refl
+returns-2 c =
+    let a = c .before .before .before .args in
+    c .refuse .ensures ∙ refused-2 (a .f) (action (a .s)) (sym (c .before .before .facade-in-range .ensures) ∙ c .before .if1 .left) ∙ step-is _ (a .s) _ refl
 
 pub step-spec : {M : Type 1} → statement M
 step-spec =
     tie.close
-    (tie.spec facade-in-range-requires step-in-range-requires returns refused-requires returns-2)
+    (tie.spec facade-in-range-requires step-in-range-requires returns refuse-requires returns-2)

@@ -1,16 +1,6 @@
 use borrow.Author.Needs.{needs}
-use Rattle.rules.specs.Server.{offerable}
 use Rattle.lending.proofs.is_offerable.Statement.{statement}
 use Rattle.lending.proofs.is_offerable.Tie as tie
-
-mul-reservation : tie.Need-mul-reservation
-mul-reservation c = search needs
-
-element-copy-out-reservation : tie.Need-element-copy-out-reservation
-element-copy-out-reservation c = search needs
-
-element-copy-out-both : tie.Need-element-copy-out-both
-element-copy-out-both c = search needs
 
 is-free-requires : tie.Need-is-free-requires
 is-free-requires c κs = search needs
@@ -25,18 +15,8 @@ both-requires-2 : tie.Need-both-requires-2
 both-requires-2 c κs = search needs
 
 returns : tie.Need-returns
-unfolding offerable
 returns c = cc
 
 pub is-offerable-spec : {M : Type 1} → statement M
 is-offerable-spec =
-    tie.close
-    (tie.spec
-    mul-reservation
-    element-copy-out-reservation
-    element-copy-out-both
-    is-free-requires
-    is-expired-requires
-    both-requires
-    both-requires-2
-    returns)
+    tie.close (tie.spec is-free-requires is-expired-requires both-requires both-requires-2 returns)

@@ -1,64 +1,74 @@
--- A short buffer, a refused header, and the first line with those of the records behind it.
+-- A short buffer, a run that ends with its first line, and one that goes on to its end.
 use native.Mathlib.Omega.{arith}
+use Prim.Native.Nat.{_+_}
+use lib.ListN.{length}
 use denote.Ref.{now}
 use borrow.Author.Needs.{needs}
-use Rattle.report.specs.Lines.{facadeLine}
-use Rattle.report.proofs.Laws.{facade-line-short, put-then}
-use Rattle.replay.proofs.Whole.{short-is-left, all-is-put, refused-output, accepted-output, accepted-is-ranged, accepted-is-short}
+use Rattle.report.proofs.Laws.{Put, put-then}
+use Rattle.replay.specs.Output.{firstLine}
+use Rattle.replay.proofs.Whole.{short-is-left, all-is-put, first-line-short, has-ended, has-begun, has-room, has-output}
 use Rattle.replay.proofs.run.Statement.{statement}
 use Rattle.replay.proofs.run.Tie as tie
 
 returns : tie.Need-returns
 returns c = short-is-left _ _ (c .if1 .taken)
 
-read-header-requires : tie.Need-read-header-requires
-read-header-requires c κs = search needs
-
-put-record-line-requires : tie.Need-put-record-line-requires
-put-record-line-requires c κs = search needs
+begin-requires : tie.Need-begin-requires
+begin-requires c κs = omega (arith, c .before .if1 .left)
 
 same-length : tie.Need-same-length
 same-length c = search needs
 
 returns-2 : tie.Need-returns-2
 returns-2 c =
-    let d = c .before .before .before .before in
-    let a = d .before .before .before .before .before .before .args in
-    all-is-put (now (a .s)) (now (a .out)) _ (omega arith)
-    (rw (refused-output _ _ (d .before .before .read-header .ensures) (d .if2 .taken)) (c .before .before .put-record-line .ensures))
+    let a = c .before .before .before .before .before .before .before .before .before .args in
+    let x = c .before .before .before .before .begin in
+    all-is-put (now (a .s)) (now (a .out)) _ (omega (arith, c .before .before .before .before .before .before .if1 .left))
+    (rw (has-ended (now (a .s)) (x .result .progress) (x .ensures .0 .0) (c .if2 .taken)) (omega (arith, x .ensures .0 .1), x .ensures .1))
 
-put-facade-line-requires : tie.Need-put-facade-line-requires
-put-facade-line-requires c κs = search needs
+cast-put-turns : tie.Need-cast-put-turns
+cast-put-turns c =
+    let x = c .before .before .before .before .before .begin in
+    omega (arith, (has-begun (now (c .before .before .before .before .before .before .before .before .before .before .args .s)) (x .result .progress) (x .ensures .0 .0) (c .before .if2 .left)) .short)
 
-put-lines-requires : tie.Need-put-lines-requires
-put-lines-requires c κs =
-    let d = c .before .before .before .before .before in
-    let h = d .before .before .read-header in
-    (accepted-is-ranged _ _ (h .ensures) (d .if2 .left), accepted-is-short _ _ (h .ensures) (d .if2 .left), omega (arith, facade-line-short (h .result .config)), omega arith)
+add-put-turns : tie.Need-add-put-turns
+add-put-turns c =
+    let x = c .before .before .before .before .before .begin in
+    omega (arith, (has-begun (now (c .before .before .before .before .before .before .before .before .before .before .args .s)) (x .result .progress) (x .ensures .0 .0) (c .before .if2 .left)) .short)
+
+put-turns-requires : tie.Need-put-turns-requires
+put-turns-requires c κs =
+    let x = c .before .before .before .before .before .begin in
+    let s = now (c .before .before .before .before .before .before .before .before .before .before .args .s) in
+    let e = x .ensures .0 .0 in (
+      has-begun s (x .result .progress) e (c .before .if2 .left),
+      omega (arith, x .ensures .0 .1, first-line-short s, has-room s (x .result .progress) e (c .before .if2 .left) (length s + 1), c .before .before .before .before .before .before .before .if1 .left),
+    )
 
 same-length-2 : tie.Need-same-length-2
 same-length-2 c = search needs
 
 returns-3 : tie.Need-returns-3
 returns-3 c =
-    let d = c .before .before .before .before .before .before .before .before in
-    let h = d .before .before .read-header in
-    let a = d .before .before .before .before .before .before .args in
-    let first = c .before .before .before .before .before .before .put-facade-line .ensures in
-    let short = facade-line-short (h .result .config) in
-    let all = put-then (now (a .out)) (facadeLine (h .result .config)) _ 0 _ _ (omega arith) first (c .before .before .put-lines .ensures) in
-    all-is-put (now (a .s)) (now (a .out)) _ (omega arith) (rw (accepted-output _ _ (h .ensures) (d .if2 .left)) all)
+    let a = c .before .before .before .before .before .before .before .before .before .before .before .before .before .args in
+    let x = c .before .before .before .before .before .before .before .before .begin in
+    let y = c .before .before .put-turns in
+    let s = now (a .s) in
+    let large = c .before .before .before .before .before .before .before .before .before .before .if1 .left in
+    let first : Put (now (a .out)) 0 (firstLine s) (x .result .end) _ = (omega (arith, x .ensures .0 .1), x .ensures .1) in
+    let all = put-then (now (a .out)) (firstLine s) _ 0 _ _ (omega (arith, x .ensures .0 .1, first-line-short s, large)) first (y .ensures .0 .2, y .ensures .1) in
+    all-is-put s (now (a .out)) _ (omega (arith, large)) (rw (has-output s (x .result .progress) (x .ensures .0 .0) (c .before .before .before .before .if2 .left)) all)
 
 pub run-spec : {M : Type 1} → statement M
 run-spec =
     tie.close
     (tie.spec
     returns
-    read-header-requires
-    put-record-line-requires
+    begin-requires
     same-length
     returns-2
-    put-facade-line-requires
-    put-lines-requires
+    cast-put-turns
+    add-put-turns
+    put-turns-requires
     same-length-2
     returns-3)

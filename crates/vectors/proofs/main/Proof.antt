@@ -16,7 +16,7 @@ slice-aggregate-run-all : tie.Need-slice-aggregate-run-all
 slice-aggregate-run-all c = sym (length-replicate {0} {A = ℕ} 65537 0)
 
 slice-aggregate-run-all-2 : tie.Need-slice-aggregate-run-all-2
-slice-aggregate-run-all-2 c = sym (length-replicate {0} {A = ℕ} 2097152 0)
+slice-aggregate-run-all-2 c = sym (length-replicate {0} {A = ℕ} 1048576 0)
 
 run-all-requires : tie.Need-run-all-requires
 run-all-requires c κs = tt
