@@ -19,7 +19,6 @@ use Rattle.types.specs.declared.Step.{Step}
 use Rattle.types.specs.declared.World.{World}
 use Rattle.types.specs.declared.Lives.{Lives}
 use Rattle.types.specs.declared.Change.{Change}
-use Rattle.rules.specs.Conditions.{_and_}
 use Rattle.rules.specs.Messages.{removed, sentBehind}
 use Rattle.rules.specs.Parts.{noServer, noClient, withServer, offsetAt, clock, parties}
 use Rattle.rules.specs.Ranges.{inRange, offsetInRange, mostWaiting}

@@ -1,7 +1,7 @@
 -- What a client's step answers, by its tests, with the tests that the kind passes anyway left out.
 use mathlib.Core.Path.{_≡_, refl, sym, ap, _∙_}
 use mathlib.Core.Bool.{Bool, true, false, not}
-use Prim.Native.Nat.{ℕ, _+_, _≤_, _<_}
+use Prim.Native.Nat.{ℕ, _+_, _<_}
 use native.Mathlib.Omega.{arith}
 use lib.Dec.{T, leb, ltb}
 use lib.ListN.{getD}
@@ -9,17 +9,15 @@ use Rattle.types.specs.declared.Step.{Step}
 use Rattle.types.specs.declared.Facade.{Facade}
 use Rattle.types.specs.declared.State.{State}
 use Rattle.types.specs.declared.Client.{Client}
-use Rattle.types.specs.declared.Answer.{Answer}
 use Rattle.types.specs.declared.ClientAnswer.{ClientAnswer}
 use Rattle.rules.specs.Parts.{noClient, stateAt, withNext}
 use Rattle.rules.specs.Ranges.{inRange}
 use Rattle.rules.specs.Client.{isOffered, isHolding, discovers, requests, renews}
 use Rattle.rules.specs.Steps.{discover, request, renew, isKnown, fieldsInRange, exists, stateAllows, ofPass, ofNotice, interactionLeft, refused, effect, action, answerTo, clientActs}
 use Rattle.rules.proofs.Laws.{true-of}
-use Rattle.rules.proofs.Kept.{Configured}
 use Rattle.rules.proofs.Actions.{action-request, action-renew}
 use Rattle.rules.proofs.Refusals.{refused-5, refused-6, refused-7, refused-12, unless-full}
-use Rattle.answers.proofs.Laws.{Last, last, sizes, waiting-high}
+use Rattle.answers.proofs.Laws.{Last, last, sizes}
 
 -- what a test says of the client y it says of the one at i
 of-client : (f : Facade) (i : ℕ) (y : Client) → getD (f .clients) i noClient ≡ y → (p : State → Bool) {b : Bool} → p (y .state) ≡ b → p (stateAt f i) ≡ b

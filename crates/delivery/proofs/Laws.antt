@@ -14,7 +14,6 @@ use Rattle.types.specs.declared.Step.{Step}
 use Rattle.types.specs.declared.Facade.{Facade}
 use Rattle.types.specs.declared.Answer.{Answer}
 use Rattle.types.specs.declared.ClientAnswer.{ClientAnswer}
-use Rattle.rules.specs.Conditions.{_and_}
 use Rattle.rules.specs.Parts.{noServer, noClient, parties, messageAt}
 use Rattle.rules.specs.Ranges.{inRange, isServer, bodyInRange, messageInRange}
 use Rattle.rules.specs.Client.{clientReceives}

@@ -1,6 +1,6 @@
 -- What each step answers, by its tests: the refusals of `rules` for each kind, with the tests that the kind passes anyway left out.
 use mathlib.Core.Path.{_≡_, refl, sym, ap, _∙_}
-use mathlib.Core.List.{List}
+use mathlib.Core.List.{List, [], _∷_}
 use mathlib.Core.Bool.{Bool, true, false, not}
 use Prim.Native.Nat.{ℕ, zero, suc, _+_, _*_, _≤_, _<_}
 use native.Mathlib.Omega.{arith}
@@ -19,7 +19,7 @@ use Rattle.rules.specs.Parts.{noServer, serverAt, offsetAt, clock, withNotices,
 use Rattle.rules.specs.Messages.{without}
 use Rattle.rules.specs.Ranges.{inRange}
 use Rattle.rules.specs.Server.{noticed, afterReturn, cleaned}
-use Rattle.rules.specs.Steps.{Action, pass, fail, return, notice, lose, cleanup, unknown, isKnown, fieldsInRange, exists, stateAllows, ofPass, timeLeft, offsetAllows, clockAllows, inTouch, ofNotice, isSoOf, isCredible, interactionLeft, accepted, refused, serverActs, moved, lapse, effect, action, answerTo, rowNow}
+use Rattle.rules.specs.Steps.{pass, fail, return, notice, lose, cleanup, unknown, isKnown, fieldsInRange, exists, stateAllows, ofPass, timeLeft, offsetAllows, clockAllows, inTouch, ofNotice, isSoOf, isCredible, interactionLeft, accepted, refused, serverActs, moved, lapse, effect, action, answerTo, rowNow}
 use Rattle.rules.proofs.Laws.{true-of, and-l, and-r, within-low, within-high}
 use Rattle.rules.proofs.Actions.{action-pass, action-notice}
 use Rattle.rules.proofs.Refusals.{refused-4, refused-5, refused-6, refused-7, refused-8, refused-9, refused-10, refused-11, unless-full}
@@ -188,12 +188,6 @@ pub clock-allows : (f : Facade) (d p : ℕ) {o e z : ℤ} {r : Bool} → o ≡ o
 unfolding clockAllows
 clock-allows f d p h q u = u ∙ rw (h, q)
 
--- refusal 11, by the server that the notice is about
-pub notice-credible : (f : Facade) (j says : ℕ) {r : Bool}
-    → r ≡ isSoOf (f .config) (f .time) (serverAt f j) says → r ≡ isCredible f j says
-unfolding isCredible
-notice-credible f j says e = e
-
 -- a notice sends nothing
 pub notice-sends : (c : Config) (k r : ℕ) (s : Server) (j says : ℕ) (x : ServerAnswer) → x ≡ noticed c k r s j says → x .outbox .count ≤ 4
 unfolding noticed
@@ -208,20 +202,21 @@ cleanup-sends c r s x e = rw e (omega arith)
 pub server-low : (f : Facade) → T (inRange f) → (k : ℕ) → k < f .config .servers → k < 4
 server-low f t k h = omega (arith, (sizes f t) .servers-high)
 
+-- one part of each of four servers
+each-of-four : {X : Type 0} (part : Server → X) (x : X) (ss : List Server) (j : ℕ) → j < 4
+    → part (getD ss j noServer) ≡ getD (part (getD ss 0 noServer) ∷ part (getD ss 1 noServer) ∷ part (getD ss 2 noServer) ∷ part (getD ss 3 noServer) ∷ []) j x
+each-of-four part x ss zero h = refl
+each-of-four part x ss (suc zero) h = refl
+each-of-four part x ss (suc (suc zero)) h = refl
+each-of-four part x ss (suc (suc (suc zero))) h = refl
+each-of-four part x ss (suc (suc (suc (suc j)))) h = absurd (omega arith)
+
 -- the lives are those of the servers
 lives-alive : (ss : List Server) (j : ℕ) → j < 4 → (getD ss j noServer) .alive ≡ getD ((livesOf ss) .alive) j false
-lives-alive ss zero h = refl
-lives-alive ss (suc zero) h = refl
-lives-alive ss (suc (suc zero)) h = refl
-lives-alive ss (suc (suc (suc zero))) h = refl
-lives-alive ss (suc (suc (suc (suc j)))) h = absurd (omega arith)
+lives-alive = each-of-four (λ (s : Server). s .alive) false
 
 lives-changed : (ss : List Server) (j : ℕ) → j < 4 → (getD ss j noServer) .changed ≡ getD ((livesOf ss) .changed) j 0
-lives-changed ss zero h = refl
-lives-changed ss (suc zero) h = refl
-lives-changed ss (suc (suc zero)) h = refl
-lives-changed ss (suc (suc (suc zero))) h = refl
-lives-changed ss (suc (suc (suc (suc j)))) h = absurd (omega arith)
+lives-changed = each-of-four (λ (s : Server). s .changed) 0
 
 -- refusal 11, by the lives
 pub credible-by : (f : Facade) (l : Lives) → livesOf (f .servers) ≡ l → (j says : ℕ) → j < 4 → (r : Bool)

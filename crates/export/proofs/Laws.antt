@@ -19,7 +19,7 @@ use Rattle.flat.proofs.Back.{facade-width, facade-coded}
 use Rattle.flatten.proofs.Laws.{over-whole}
 use Rattle.script.specs.declared.Written.{Written}
 use Rattle.script.specs.Writing.{stepsIn, written, buffer}
-use Rattle.export.specs.Export.{given, freshRefusal, freshNumbers, handedRefusal, handedNumbers, handedOutcome, writtenRefusal, writtenScript, writtenLength}
+use Rattle.export.specs.Export.{freshRefusal, freshNumbers, handedRefusal, handedNumbers, handedOutcome, writtenRefusal, writtenScript, writtenLength}
 
 -- a facade put into the list that held the last one
 whole-put : (f : Facade) (l : List ℕ) {m : List ℕ} → length l ≡ 2778 → FacadeShaped f → m ≡ over l 0 (facadeNumbers f) → m ≡ facadeNumbers f

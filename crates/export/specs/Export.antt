@@ -11,7 +11,6 @@ use Rattle.types.specs.declared.Answer.{Answer}
 use Rattle.rules.specs.Conditions.{_and_}
 use Rattle.rules.specs.Steps.{start, step}
 use Rattle.flat.specs.Flat.{configIn, facadeNumbers, facadeIn, isFacade}
-use Rattle.script.specs.declared.Written.{Written}
 use Rattle.script.specs.Writing.{stepsIn, written, buffer}
 
 -- the flat form of the facade that an answer gives, in the place of l, which a refusal n leaves

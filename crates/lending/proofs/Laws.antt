@@ -1,5 +1,5 @@
--- Laws of the rules' definitions that the proofs of the code cite: one turn more of a loop, and what is sent.
-use mathlib.Core.Path.{_≡_, sym, ap, _∙_}
+-- Laws of the rules' definitions that the proofs of the code cite: an address by its parts, and one turn more of a loop.
+use mathlib.Core.Path.{_≡_, sym, _∙_}
 use mathlib.Core.Bool.{Bool}
 use Prim.Native.Nat.{ℕ, _+_}
 use native.Mathlib.Numerals.{add-one}
@@ -8,10 +8,8 @@ use lib.ListN.{set}
 use Rattle.types.specs.declared.Config.{Config}
 use Rattle.types.specs.declared.Reserved.{Reserved}
 use Rattle.types.specs.declared.Server.{Server}
-use Rattle.types.specs.declared.Outbox.{Outbox}
 use Rattle.rules.specs.Conditions.{_and_, filled}
 use Rattle.rules.specs.Parts.{leadsAt, reservedAt, recordAt, withReserved}
-use Rattle.rules.specs.Messages.{nothing}
 use Rattle.rules.specs.Server.{expirySlack, expired, isFree, offerable, freedIfOf}
 
 -- whether an address may be offered, by its parts
@@ -28,6 +26,3 @@ pub dropped-more : (q : ℕ) (s : Server) (n : ℕ) (t : Server) (x : Reserved) 
     → withReserved t (set (t .reserved) n (record { state = x })) ≡ droppedBelow q s (n + 1)
 unfolding filled
 dropped-more q s n t x e d = rw (add-one, e, d)
-
-pub sent-nothing : (o : Outbox) → o ≡ nothing → o .count ≡ 0
-sent-nothing o e = ap (λ (x : Outbox). x .count) e

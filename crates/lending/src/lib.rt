@@ -1,4 +1,5 @@
-// What a server does with a message: c is the configuration, k the server's number, r its clock reading, s its value.
+// What a server does with a discover, a request and a renewal: c is the configuration, k the server's number, r its clock
+// reading, s its value.
 // The message comes from party p in interaction q.
 use arith::both;
 use arith::larger;
@@ -19,11 +20,11 @@ ghost use mathlib.Core.Path.{_≡_};
 ghost use mathlib.Core.Bool.{true, false};
 ghost use Prim.Native.Nat.{_+_, _≤_, _<_, max};
 ghost use lib.Dec.{ltb};
-ghost use lib.ListN.{getD, set, replicate};
-ghost use Rattle.rules.specs.Conditions.{_and_, all, lowest};
+ghost use lib.ListN.{set, replicate};
+ghost use Rattle.rules.specs.Conditions.{_and_, lowest};
 ghost use Rattle.rules.specs.Parts.{message, recordAt, withLease};
 ghost use Rattle.rules.specs.Messages.{nothing as nothingSent, post as posted, toOthers};
-ghost use Rattle.rules.specs.Server.{opened, expirySlack, isFree, offerable, offers, onDiscover, granted, freedIfOf, dropped, onRequest, onRenew, onWrite, matchesWrite, acknowledged, onWriteAck, closed as closedWrite};
+ghost use Rattle.rules.specs.Server.{opened, expirySlack, isFree, offerable, offers, onDiscover, granted, freedIfOf, dropped, onRequest, onRenew};
 ghost use Rattle.rules.proofs.Kept.{Configured};
 
 // Whether the record v has passed by more than 2Δ.
@@ -257,110 +258,6 @@ pub fn on_renew(
         return grant(c, k, s, p, q, a, t, l);
     }
     let none = nothing();
-    ServerAnswer {
-        server: s,
-        outcome: 1,
-        outbox: none,
-    }
-}
-
-pub fn on_write(k: u32, s: Server, p: u32, q: u32, a: u32, v: u32) -> ServerAnswer
-    requires { ⌜ a < 32 ⌝ }
-    ensures { λ x. ⌜ x ≡ onWrite k s p q a v ⌝ }
-{
-    let at = a as usize;
-    let mut t = s;
-    t.potlease[at] = larger(s.potlease[at], v);
-    let none = nothing();
-    let m = Message {
-        sender: k,
-        receiver: p,
-        interaction: q,
-        body: Body::WriteAck(a, v),
-    };
-    let sent = post(none, m);
-    ServerAnswer {
-        server: t,
-        outcome: 0,
-        outbox: sent,
-    }
-}
-
-// Whether the open write is that of q and v.
-fn is_match(q: u32, v: u32, x: Pending) -> bool
-    ensures { λ r. ⌜ r ≡ matchesWrite q v x ⌝ }
-{
-    match x {
-        Pending::Closed => false,
-        Pending::Open(own, end) => both(q == own, v == end),
-    }
-}
-
-// Whether all of the first n servers are in.
-fn are_all_in(acked: [bool; 4], n: u32) -> bool
-    requires { ⌜ n ≤ 4 ⌝ }
-    ensures { λ r. ⌜ r ≡ all (λ j. getD acked j false) n ⌝ }
-{
-    let mut ok = true;
-    let mut j = 0;
-    while j < n {
-        let at = j as usize;
-        ok = both(acked[at], ok);
-        j += 1;
-    }
-    ok
-}
-
-// No open write.
-pub fn closed() -> OpenWrite
-    ensures { λ w. ⌜ w ≡ closedWrite ⌝ }
-{
-    OpenWrite {
-        pending: Pending::Closed,
-        acked: [false; 4],
-    }
-}
-
-// The server when the write of q and v has these acks.
-fn acknowledge(c: Config, s: Server, q: u32, a: u32, v: u32, acked: [bool; 4]) -> Server
-    requires { ⌜ (c .servers ≤ 4) × (a < 32) ⌝ }
-    ensures { λ t. ⌜ t ≡ acknowledged c s q a v acked ⌝ }
-{
-    let at = a as usize;
-    let mut t = s;
-    let l = s.lent[at];
-    if are_all_in(acked, c.servers) {
-        t.lent[at] = larger(l, v);
-        t.writes[at] = closed();
-        return t;
-    }
-    t.lent[at] = l;
-    t.writes[at] = OpenWrite {
-        pending: Pending::Open(q, v),
-        acked: acked,
-    };
-    t
-}
-
-pub fn on_write_ack(c: Config, s: Server, p: u32, q: u32, a: u32, v: u32) -> ServerAnswer
-    requires { ⌜ (c .servers ≤ 4) × (a < 32) × (p < 4) ⌝ }
-    ensures { λ x. ⌜ x ≡ onWriteAck c s p q a v ⌝ }
-{
-    let at = a as usize;
-    let from = p as usize;
-    let none = nothing();
-    let w = s.writes[at];
-    let pending = w.pending;
-    if both(s.leads[at], is_match(q, v, pending)) {
-        let mut acked = w.acked;
-        acked[from] = true;
-        let t = acknowledge(c, s, q, a, v, acked);
-        return ServerAnswer {
-            server: t,
-            outcome: 0,
-            outbox: none,
-        };
-    }
     ServerAnswer {
         server: s,
         outcome: 1,

@@ -9,7 +9,11 @@ use lib.ListN.{length, length-map}
 use lib.Seq.{set-out}
 use Rattle.types.specs.declared.Message.{Message}
 use Rattle.types.specs.declared.Outbox.{Outbox}
-use Rattle.rules.specs.Messages.{post, postUnless, toServers}
+use Rattle.rules.specs.Messages.{nothing, post, postUnless, toServers}
+
+-- nothing is sent
+pub sent-nothing : (o : Outbox) → o ≡ nothing → o .count ≡ 0
+sent-nothing o e = ap (λ (x : Outbox). x .count) e
 
 -- a full outbox counts one more and keeps what it holds
 pub post-full : (o : Outbox) (m : Message) → length (o .messages) ≡ 4 → 4 ≤ o .count → record { count = o .count + 1; messages = o .messages } ≡ post o m

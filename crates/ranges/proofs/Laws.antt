@@ -22,6 +22,10 @@ waiting-told f e =
     let t : T (numbersInRange f) = rw e tt in
     leb→le (f .waiting) 128 (and-r (within 1 (lastInteraction + 1) (f .next)) _ (and-r (leb (f .time) lastTime) _ t))
 
+-- so they are, where the code has tested one after the other
+pub numbers-by : (f : Facade) {x y z : Bool} → x ≡ within 1 (lastInteraction + 1) (f .next) → y ≡ (x and leb (f .waiting) mostWaiting) → z ≡ (leb (f .time) lastTime and y) → z ≡ numbersInRange f
+numbers-by f p q r = rw (r, q, p)
+
 grouped : (b c d e : Bool) → (b and c and d and e) ≡ ((b and c and d) and e)
 unfolding _and_
 grouped true true d e = refl

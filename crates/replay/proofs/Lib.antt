@@ -1,5 +1,2 @@
-pub mod Owed
-pub mod Lines
-pub mod Turns
 pub mod Whole
 pub mod Pieces

@@ -16,9 +16,10 @@ use Rattle.wire.proofs.Over.{over-length}
 use Rattle.script.specs.Reading.{recordAt}
 use Rattle.script.specs.declared.Record.{Record}
 use Rattle.report.specs.Lines.{recordLine, heldLine}
-use Rattle.replay.specs.declared.Progress.{Progress}
-use Rattle.replay.specs.Output.{before, answerLine, linesFrom, progressFrom, firstLine, beginning, output, pieceTurns, mostPiece, UnderWay}
-use Rattle.replay.proofs.Lines.{moves-two, lines-few, moves-on}
+use Rattle.turns.specs.declared.Progress.{Progress}
+use Rattle.turns.specs.Turns.{before, answerLine, linesFrom, progressFrom, UnderWay}
+use Rattle.replay.specs.Output.{firstLine, beginning, output, pieceTurns, mostPiece}
+use Rattle.turns.proofs.Lines.{moves-two, lines-few, moves-on}
 use Rattle.replay.proofs.Whole.{first-line-short, output-begun}
 
 none-more : (m : ℕ) → 0 + m ≡ m

@@ -19,9 +19,10 @@ use Rattle.script.specs.Reading.{longest, isScript, configIn, headerIn}
 use Rattle.script.specs.declared.Header.{Header}
 use Rattle.report.specs.Lines.{recordLine, facadeLine}
 use Rattle.report.proofs.Laws.{Put, record-line-short, facade-line-short}
-use Rattle.replay.specs.declared.Progress.{Progress}
-use Rattle.replay.specs.Output.{before, linesFrom, firstLine, beginning, output, mostOutput, outputLength, buffer, UnderWay}
-use Rattle.replay.proofs.Lines.{lines-fit}
+use Rattle.turns.specs.declared.Progress.{Progress}
+use Rattle.turns.specs.Turns.{before, linesFrom, UnderWay}
+use Rattle.replay.specs.Output.{firstLine, beginning, output, mostOutput, outputLength, buffer}
+use Rattle.turns.proofs.Lines.{lines-fit}
 
 -- a short buffer is left as it is
 pub short-is-left : (s l : List ℕ) → length l < mostOutput → (0 ≡ outputLength s (length l)) × (l ≡ buffer s l)

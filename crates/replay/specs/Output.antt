@@ -1,45 +1,17 @@
 -- What the rig prints for a script, as bytes: "`facade S C A`, then per record: its number from 1, refusal (0 if none), outcome
 -- (0 if refused), true time, waiting messages. Refusal 3 ends the run after its line. Last comes `held` and how many clients hold.
 -- Refusals 1 and 2 print only `0 1 0 0 0` or `0 2 0 0 0`."
-use mathlib.Core.Path.{_≡_}
-use mathlib.Core.Bool.{Bool, true, false, not, cond}
+use mathlib.Core.Bool.{not, cond}
 use mathlib.Core.List.{List, [], _++_}
-use Prim.Native.Nat.{ℕ, zero, suc, _+_, _*_, _≤_}
+use Prim.Native.Nat.{ℕ, _+_}
 use lib.Dec.{leb, eqb}
 use lib.ListN.{length}
-use Rattle.types.specs.declared.Facade.{Facade}
-use Rattle.types.specs.declared.Answer.{Answer}
-use Rattle.rules.specs.Steps.{fresh, step, heldClients}
+use Rattle.rules.specs.Steps.{fresh}
 use Rattle.wire.specs.Numbers.{over}
-use Rattle.rules.proofs.Ranges.{Sound}
-use Rattle.script.specs.Reading.{longest, headerIn, recordAt}
-use Rattle.replay.specs.declared.Progress.{Progress}
-use Rattle.report.specs.Lines.{recordLine, facadeLine, heldLine}
-
--- the line of record k: what its step answers, with the facade that it gives back
-abbrev pub answerLine : ℕ → Answer → List ℕ
-answerLine k x = recordLine k (x .refusal) (x .outcome) (x .facade .time) (x .facade .waiting)
-
--- a run before the record at place p, which is number k
-abbrev pub before : Facade → ℕ → ℕ → Bool → Progress
-before f p k ended = record { facade = f; place = p; number = k; ended = ended }
-
--- the lines of the n turns from the record at place p on, which is number k: a turn takes one record, and the last turn ends the run
-unfoldable pub linesFrom : ℕ → Facade → List ℕ → ℕ → ℕ → List ℕ
-linesFrom zero f s p k = []
-linesFrom (suc n) f s p k =
-    cond (leb (length s) p) (heldLine (heldClients f))
-    (cond (eqb ((recordAt s p) .refusal) 3)
-    (recordLine k 3 0 (f .time) (f .waiting) ++ heldLine (heldClients f))
-    (answerLine k (step f ((recordAt s p) .step)) ++ linesFrom n ((step f ((recordAt s p) .step)) .facade) s ((recordAt s p) .next) (k + 1)))
-
--- the run behind them
-unfoldable pub progressFrom : ℕ → Facade → List ℕ → ℕ → ℕ → Progress
-progressFrom zero f s p k = before f p k false
-progressFrom (suc n) f s p k =
-    cond (leb (length s) p) (before f p k true)
-    (cond (eqb ((recordAt s p) .refusal) 3) (before f p k true)
-    (progressFrom n ((step f ((recordAt s p) .step)) .facade) s ((recordAt s p) .next) (k + 1)))
+use Rattle.script.specs.Reading.{headerIn}
+use Rattle.turns.specs.declared.Progress.{Progress}
+use Rattle.turns.specs.Turns.{before, linesFrom}
+use Rattle.report.specs.Lines.{recordLine, facadeLine}
 
 -- the first line, or the only one of a script whose header is refused
 unfoldable pub firstLine : List ℕ → List ℕ
@@ -71,12 +43,3 @@ pieceTurns = 2048
 
 abbrev pub mostPiece : ℕ
 mostPiece = 65536
-
--- the run r of a script of the right length is under way: its facade is in range, and each record before took two bytes or more, from place 29 on
-pub record UnderWay (s : List ℕ) (r : Progress) : Type 0 where
-  pub sound : Sound (r .facade)
-  pub servers : length (r .facade .servers) ≡ 4
-  pub clients : length (r .facade .clients) ≡ 32
-  pub counted : 2 * r .number + 27 ≤ r .place
-  pub placed : r .place ≤ longest
-  pub short : length s ≤ longest

@@ -15,7 +15,7 @@ use Rattle.types.specs.declared.ServerAnswer.{ServerAnswer}
 use Rattle.types.specs.declared.ClientAnswer.{ClientAnswer}
 use Rattle.rules.specs.Conditions.{_and_, _or_, within, unless, all, counted, filled}
 use Rattle.rules.specs.Clock.{notNegative, signed}
-use Rattle.rules.specs.Parts.{serverAt, stateAt, messageAt, offsetAt, noticeAt, clock, clientParty, parties, inState, noReservation, noClient, noMessage, withLife, withServer, withNotices, withClient, withClients, withTime, withNext}
+use Rattle.rules.specs.Parts.{serverAt, stateAt, messageAt, offsetAt, noticeAt, clock, clientParty, parties, inState, noClient, noMessage, withLife, withServer, withNotices, withClient, withClients, withTime, withNext}
 use Rattle.rules.specs.Ranges.{configInRange, inRange, endInRange, isServer, lastTime, lastInteraction, mostWaiting}
 use Rattle.rules.specs.Messages.{sendAll, without}
 use Rattle.rules.specs.Server.{noticed, clearedServer, afterReturn, cleaned, serverReceives}

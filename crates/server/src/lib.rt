@@ -1,11 +1,8 @@
 // What is sealed in: a server's notices, return and cleanup, and the messages that it handles.
 // c is the configuration, k the server's number, r its clock reading, s its value. A server knows no facade and no true time.
-use lending::closed;
 use lending::on_discover;
 use lending::on_renew;
 use lending::on_request;
-use lending::on_write;
-use lending::on_write_ack;
 use outbox::nothing;
 use types::Body;
 use types::Config;
@@ -14,6 +11,9 @@ use types::Reservation;
 use types::Reserved;
 use types::Server;
 use types::ServerAnswer;
+use writes::closed;
+use writes::on_write;
+use writes::on_write_ack;
 ghost use mathlib.Core.Path.{_≡_};
 ghost use Prim.Native.Nat.{_≤_, _<_};
 ghost use lib.Dec.{T};

@@ -172,8 +172,9 @@ pub struct Lives {
 }
 
 // What a step changes. At hand are the one server, client and message that the step concerns: see crate `world`.
-// The refusal or 0 and the outcome are those of the answer, unless more than 128 messages would wait (13); the world, the server and the client at hand are as after the step;
-// `taken` says whether the message at hand is taken out, and the outbox has what is sent.
+// The refusal or 0 and the outcome are those of the answer, unless more than 128 messages would wait (13); the world, the server
+// and the client at hand are as after the step; `taken` says whether the message at hand is taken out, and the outbox has what is
+// sent.
 pub struct Change {
     pub refusal: u32,
     pub outcome: u32,

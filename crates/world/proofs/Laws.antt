@@ -1,16 +1,12 @@
 -- Laws of a facade taken apart.
-use mathlib.Core.Path.{_≡_, refl}
-use mathlib.Core.Bool.{Bool, true, false, cond}
-use mathlib.Core.List.{List, [], _∷_}
-use Prim.Native.Nat.{ℕ, zero, suc, _≤_, _<_}
+use mathlib.Core.Path.{_≡_}
+use mathlib.Core.Bool.{Bool, true, false}
+use Prim.Native.Nat.{ℕ, _≤_, _<_}
 use native.Mathlib.Omega.{arith}
 use lib.Dec.{ltb, ltb→lt}
-use lib.ListN.{getD, set, length}
 use borrow.Author.Tests.{lt-ltb}
-use Rattle.types.specs.declared.Server.{Server}
-use Rattle.rules.specs.Parts.{noServer}
 use Rattle.rules.proofs.Laws.{cond-case}
-use Rattle.world.specs.Apart.{placeBelow, livesOf, restOf}
+use Rattle.world.specs.Apart.{placeBelow, restOf}
 
 -- a place is there
 pub place-low : (n k j : ℕ) → 1 ≤ n → j ≡ placeBelow n k → j < n

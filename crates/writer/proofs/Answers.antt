@@ -1,38 +1,22 @@
--- The writer's refusal, and its answer and buffer by that refusal.
-use mathlib.Core.Path.{_≡_, refl, sym, _∙_}
-use mathlib.Core.Bool.{Bool, true, false, cond}
+-- The writer's answer and buffer, by its refusal.
+use mathlib.Core.Path.{_≡_, sym, _∙_}
+use mathlib.Core.Bool.{cond}
 use mathlib.Core.List.{List}
 use Prim.Native.Nat.{ℕ, _+_, _≤_, _<_}
 use native.Mathlib.Omega.{arith}
 use borrow.Author.Tests.{ne-eqb}
-use lib.Dec.{leb, eqb}
+use lib.Dec.{eqb}
 use lib.ListN.{length}
 use Rattle.types.specs.declared.Config.{Config}
 use Rattle.types.specs.declared.Step.{Step}
-use Rattle.rules.specs.Conditions.{_and_, unless}
-use Rattle.rules.specs.Ranges.{configInRange}
 use Rattle.wire.specs.Numbers.{over}
 use Rattle.wire.proofs.Over.{over-then}
 use Rattle.script.specs.declared.Written.{Written}
 use Rattle.script.specs.Layout.{headerOf, recordsOf}
-use Rattle.script.specs.Reading.{longest, orElse}
 use Rattle.script.specs.Writing.{stepsRefusal, writeRefusal, written, buffer}
 use Rattle.script.proofs.Round.{header-length, script-length, not-refused}
 
--- the configuration comes first
-config-first : (b : Bool) (later : ℕ) → orElse (unless b 2 0) later ≡ unless b 2 later
-unfolding unless
-config-first true later = refl
-config-first false later = refl
-
 module _ (c : Config) (ss : List Step) (room : ℕ) {size : ℕ} (whole : size ≡ 29 + length (recordsOf ss)) where
-  -- the tests in their order
-  module _ {t u : Bool} (p : t ≡ configInRange c) (q : u ≡ (leb size longest and leb size room)) where
-    pub in-order : {x y z later n : ℕ} → x ≡ unless t 2 0 → y ≡ stepsRefusal ss → z ≡ unless u 1 0 → later ≡ orElse y z → n ≡ orElse x later
-        → n ≡ writeRefusal c ss room
-    unfolding writeRefusal
-    in-order ex ey ez el en = en ∙ rw (el, ex, ey, ez, p, q, script-length, ← whole) (config-first (configInRange c) _)
-
   pub answered : {n : ℕ} → n ≡ writeRefusal c ss room → {w : Written} → w ≡ record { refusal = n; length = cond (eqb n 0) size 0 }
       → w ≡ written c ss room
   unfolding written

@@ -15,7 +15,7 @@ both-requires-2 : tie.Need-both-requires-2
 both-requires-2 c κs = search needs
 
 returns : tie.Need-returns
-returns c = cc
+returns c = rw (c .both2 .ensures, c .before .both .ensures, c .before .before .is-expired .ensures, c .before .before .before .is-free .ensures)
 
 pub is-offerable-spec : {M : Type 1} → statement M
 is-offerable-spec =

@@ -2,7 +2,7 @@ use mathlib.Core.Path.{_∙_, ap}
 use native.Mathlib.Omega.{arith}
 use borrow.Author.Needs.{needs}
 use Rattle.types.specs.declared.Outbox.{Outbox}
-use Rattle.lending.proofs.Laws.{sent-nothing}
+use Rattle.outbox.proofs.Laws.{sent-nothing}
 use Rattle.lending.proofs.lease_messages.Statement.{statement}
 use Rattle.lending.proofs.lease_messages.Tie as tie
 

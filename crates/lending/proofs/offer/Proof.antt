@@ -2,7 +2,7 @@ use native.Mathlib.Omega.{arith}
 use borrow.Author.Tests.{lt-ltb, le-ltb}
 use borrow.Author.Needs.{needs}
 use Rattle.rules.specs.Server.{offers}
-use Rattle.lending.proofs.Laws.{sent-nothing}
+use Rattle.outbox.proofs.Laws.{sent-nothing}
 use Rattle.lending.proofs.offer.Statement.{statement}
 use Rattle.lending.proofs.offer.Tie as tie
 

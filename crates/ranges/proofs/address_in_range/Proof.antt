@@ -44,7 +44,7 @@ both-requires-3 c κs = search needs
 
 returns : tie.Need-returns
 unfolding addressInRange
-returns c = cc
+returns c = rw (c .both3 .ensures, c .before .both2 .ensures, c .before .before .before .reservation-in-range .ensures, c .before .before .before .before .both .ensures, c .before .before .before .before .before .write-in-range .ensures)
 
 pub address-in-range-spec : {M : Type 1} → statement M
 address-in-range-spec =

@@ -38,7 +38,7 @@ both-requires-6 c κs = search needs
 
 returns : tie.Need-returns
 unfolding configInRange
-returns c = cc
+returns c = rw (c .both6 .ensures, c .before .both5 .ensures, c .before .before .is-within5 .ensures, c .before .before .before .is-within4 .ensures, c .before .before .before .before .both4 .ensures, c .before .before .before .before .before .both3 .ensures, c .before .before .before .before .before .before .before .is-within3 .ensures, c .before .before .before .before .before .before .before .before .both2 .ensures, c .before .before .before .before .before .before .before .before .before .both .ensures, c .before .before .before .before .before .before .before .before .before .before .before .is-within2 .ensures, c .before .before .before .before .before .before .before .before .before .before .before .before .is-within .ensures)
 
 pub config-in-range-spec : {M : Type 1} → statement M
 config-in-range-spec =

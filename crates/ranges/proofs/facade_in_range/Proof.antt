@@ -1,9 +1,8 @@
-use mathlib.Core.Path.{_≡_, sym, _∙_}
-use mathlib.Core.Bool.{true, false}
+use mathlib.Core.Path.{sym, _∙_}
 use borrow.Author.Needs.{needs}
 use Rattle.rules.specs.Conditions.{_and_}
-use Rattle.rules.specs.Ranges.{configInRange, inRange}
-use Rattle.ranges.proofs.Laws.{told, numbersInRange, waiting-told, past-tests, test-failed}
+use Rattle.rules.specs.Ranges.{inRange}
+use Rattle.ranges.proofs.Laws.{told, numbers-by, waiting-told, past-tests, test-failed}
 use Rattle.ranges.proofs.facade_in_range.Statement.{statement}
 use Rattle.ranges.proofs.facade_in_range.Tie as tie
 
@@ -20,20 +19,28 @@ both-requires-2 : tie.Need-both-requires-2
 both-requires-2 c κs = search needs
 
 places-in-range-requires : tie.Need-places-in-range-requires
-places-in-range-requires c κs = (told _ (cc), waiting-told (c .before .before .before .before .before .before .before .before .before .args .f) (cc))
+places-in-range-requires c κs =
+    let b = c .before in
+    let f = b .before .before .before .before .before .before .before .before .args .f in
+    let k = sym (b .before .before .before .before .before .before .config-in-range .ensures) ∙ b .before .before .before .before .before .if1 .taken in
+    (told _ k, waiting-told f (sym (numbers-by f (b .before .before .before .is-within .ensures) (b .before .both .ensures) (b .both2 .ensures)) ∙ c .if2 .taken))
 
 returns : tie.Need-returns
 unfolding inRange
-returns c = let f = c .before .before .before .before .before .before .before .before .before .before .args .f in
-    let k : configInRange (f .config) ≡ true = cc in
-    let n : numbersInRange f ≡ true = cc in
+returns c =
+    let b = c .before .before in
+    let f = b .before .before .before .before .before .before .before .before .args .f in
+    let k = sym (b .before .before .before .before .before .before .config-in-range .ensures) ∙ b .before .before .before .before .before .if1 .taken in
+    let n = sym (numbers-by f (b .before .before .before .is-within .ensures) (b .before .both .ensures) (b .both2 .ensures)) ∙ c .before .if2 .taken in
     rw (past-tests _ _ _ _ _ k n) (c .places-in-range .ensures)
 
 returns-2 : tie.Need-returns-2
 unfolding inRange
-returns-2 c = let f = c .before .before .before .before .before .before .before .before .before .args .f in
-    let k : configInRange (f .config) ≡ true = cc in
-    let n : numbersInRange f ≡ false = cc in
+returns-2 c =
+    let b = c .before in
+    let f = b .before .before .before .before .before .before .before .before .args .f in
+    let k = sym (b .before .before .before .before .before .before .config-in-range .ensures) ∙ b .before .before .before .before .before .if1 .taken in
+    let n = sym (numbers-by f (b .before .before .before .is-within .ensures) (b .before .both .ensures) (b .both2 .ensures)) ∙ c .if2 .left in
     rw (test-failed _ _ _ _ _ k n)
 
 returns-3 : tie.Need-returns-3

@@ -14,7 +14,7 @@ both-requires c κs = search needs
 
 returns : tie.Need-returns
 unfolding messageInRange
-returns c = cc
+returns c = rw (c .both .ensures, c .before .body-in-range .ensures, c .before .before .interaction-in-range .ensures)
 
 pub message-in-range-spec : {M : Type 1} → statement M
 message-in-range-spec =

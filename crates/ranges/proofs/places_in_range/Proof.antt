@@ -30,7 +30,7 @@ both-requires-4 : tie.Need-both-requires-4
 both-requires-4 c κs = search needs
 
 returns : tie.Need-returns
-returns c = cc
+returns c = rw (c .both4 .ensures, c .before .offsets-in-range .ensures, c .before .before .both3 .ensures, c .before .before .before .both2 .ensures, c .before .before .before .before .notices-in-range .ensures, c .before .before .before .before .before .servers-in-range .ensures, c .before .before .before .before .before .before .both .ensures, c .before .before .before .before .before .before .before .messages-in-range .ensures, c .before .before .before .before .before .before .before .before .clients-in-range .ensures)
 
 pub places-in-range-spec : {M : Type 1} → statement M
 places-in-range-spec =

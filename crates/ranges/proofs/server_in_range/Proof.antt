@@ -14,7 +14,7 @@ both-requires-2 c κs = search needs
 
 returns : tie.Need-returns
 unfolding serverInRange
-returns c = cc
+returns c = rw (c .both2 .ensures, c .before .both .ensures, c .before .before .addresses-in-range .ensures)
 
 pub server-in-range-spec : {M : Type 1} → statement M
 server-in-range-spec =

@@ -52,15 +52,15 @@ returns-2 c = rw (c .before .before .x .given .1) (c .interaction-in-range .ensu
 
 returns-3 : tie.Need-returns-3
 unfolding stateInRange
-returns-3 c = rw (c .before .before .before .before .x2 .given .1) (cc)
+returns-3 c = rw (c .before .before .before .before .x2 .given .1, c .both .ensures, c .before .before .interaction-in-range2 .ensures)
 
 returns-4 : tie.Need-returns-4
 unfolding stateInRange
-returns-4 c = rw (c .before .before .before .before .x3 .given .1) (cc)
+returns-4 c = rw (c .before .before .before .before .x3 .given .1, c .both2 .ensures, c .before .before .interaction-in-range3 .ensures)
 
 returns-5 : tie.Need-returns-5
 unfolding stateInRange
-returns-5 c = rw (c .before .before .before .before .before .x4 .given .1) (cc)
+returns-5 c = rw (c .before .before .before .before .before .x4 .given .1, c .both4 .ensures, c .before .both3 .ensures, c .before .before .interaction-in-range4 .ensures)
 
 pub state-in-range-spec : {M : Type 1} → statement M
 state-in-range-spec =

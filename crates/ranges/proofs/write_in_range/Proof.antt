@@ -21,7 +21,7 @@ returns c = rw (c .enum-told .given .1)
 
 returns-2 : tie.Need-returns-2
 unfolding writeInRange
-returns-2 c = rw (c .before .before .before .x .given .1) (cc)
+returns-2 c = rw (c .before .before .before .x .given .1, c .both .ensures, c .before .interaction-in-range .ensures)
 
 pub write-in-range-spec : {M : Type 1} → statement M
 write-in-range-spec =

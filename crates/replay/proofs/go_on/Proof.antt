@@ -1,7 +1,7 @@
 use native.Mathlib.Omega.{arith}
 use denote.Ref.{now}
 use borrow.Author.Needs.{needs}
-use Rattle.replay.proofs.Lines.{lines-few}
+use Rattle.turns.proofs.Lines.{lines-few}
 use Rattle.replay.proofs.go_on.Statement.{statement}
 use Rattle.replay.proofs.go_on.Tie as tie
 

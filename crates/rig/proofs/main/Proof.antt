@@ -7,7 +7,7 @@ use lib.ListN.{length, take, replicate, length-replicate}
 use lib.Seq.{length-take-le}
 use borrow.Author.Needs.{needs}
 use borrow.Author.Tests.{not-true}
-use Rattle.replay.specs.Output.{UnderWay}
+use Rattle.turns.specs.Turns.{UnderWay}
 use Rattle.replay.proofs.Whole.{has-begun}
 use Rattle.replay.proofs.Pieces.{turns-left, fewer-left, first-within, next-within}
 use Rattle.rig.proofs.main.Statement.{statement}

@@ -27,7 +27,7 @@ number-at-requires-7 c κs = search needs
 returns : tie.Need-returns
 unfolding configIn
 returns c =
-    cc (
+    rw (
       c .before .before .before .before .before .before .number-at .ensures,
       c .before .before .before .before .before .number-at2 .ensures,
       c .before .before .before .before .number-at3 .ensures,

@@ -35,12 +35,12 @@ field-in-requires-3 c κs =
 returns : tie.Need-returns
 unfolding stepIn
 returns c =
-    cc (
-      c .before .before .before .before .wide .ensures .0,
-      c .before .before .before .field-count .ensures .0,
-      c .before .before .field-in .ensures,
-      c .before .field-in2 .ensures,
+    rw (
       c .field-in3 .ensures,
+      c .before .field-in2 .ensures,
+      c .before .before .field-in .ensures,
+      c .before .before .before .field-count .ensures .0,
+      c .before .before .before .before .wide .ensures .0,
     )
 
 pub step-in-spec : {M : Type 1} → statement M

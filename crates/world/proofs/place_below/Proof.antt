@@ -1,5 +1,4 @@
 use borrow.Author.Tests.{lt-ltb, le-ltb}
-use borrow.Author.Needs.{needs}
 use Rattle.world.specs.Apart.{placeBelow}
 use Rattle.world.proofs.place_below.Statement.{statement}
 use Rattle.world.proofs.place_below.Tie as tie

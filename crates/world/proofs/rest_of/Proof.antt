@@ -1,4 +1,3 @@
-use native.Mathlib.Omega.{arith}
 use Rattle.world.proofs.rest_of.Statement.{statement}
 use Rattle.world.proofs.rest_of.Tie as tie
 

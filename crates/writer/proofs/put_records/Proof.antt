@@ -8,7 +8,7 @@ use Rattle.wire.specs.Numbers.{over}
 use Rattle.wire.proofs.Over.{over-none, over-then}
 use Rattle.script.specs.Layout.{stepRefusal, recordOf, recordsOf}
 use Rattle.script.specs.Writing.{rowAt, rows}
-use Rattle.writer.proofs.Laws.{no-records, next-records, next-length, kept-at, room-at}
+use Rattle.rows.proofs.Laws.{no-records, next-records, next-length, kept-at, room-at}
 use Rattle.writer.proofs.put_records.Statement.{statement}
 use Rattle.writer.proofs.put_records.Tie as tie
 

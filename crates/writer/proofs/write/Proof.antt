@@ -4,7 +4,7 @@ use borrow.Author.Needs.{needs}
 use lib.ListN.{length}
 use denote.Ref.{now}
 use Rattle.script.specs.Writing.{stepsIn}
-use Rattle.writer.proofs.Laws.{records-high}
+use Rattle.rows.proofs.Laws.{records-high}
 use Rattle.writer.proofs.Answers.{answered, refused, has-room, all-put}
 use Rattle.writer.proofs.write.Statement.{statement}
 use Rattle.writer.proofs.write.Tie as tie

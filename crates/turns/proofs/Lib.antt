@@ -1,0 +1,3 @@
+pub mod Owed
+pub mod Lines
+pub mod Turns

@@ -1,0 +1,153 @@
+-- The turns of the run: from the lines that are owed at a place, to what is owed or put behind it.
+use mathlib.Core.Path.{_≡_, refl, sym, _∙_}
+use mathlib.Core.Bool.{Bool, true, false}
+use mathlib.Core.List.{List, [], _++_}
+use Prim.Native.Nat.{ℕ, suc, _+_, _*_, _≤_, _<_}
+use native.Mathlib.Omega.{arith}
+use lib.Dec.{ltb}
+use lib.ListN.{length}
+use borrow.Author.Tests.{lt-ltb, le-ltb}
+use Rattle.types.specs.declared.Server.{Server}
+use Rattle.types.specs.declared.Client.{Client}
+use Rattle.types.specs.declared.Message.{Message}
+use Rattle.types.specs.declared.World.{World}
+use Rattle.types.specs.declared.Facade.{Facade}
+use Rattle.types.specs.declared.Answer.{Answer}
+use Rattle.rules.specs.Steps.{step, heldClients}
+use Rattle.rules.proofs.Laws.{cond-case, length-filled}
+use Rattle.rules.proofs.Ranges.{Sound, step-sound}
+use Rattle.world.specs.Apart.{worldOf, facadeOf, ended, holdsAfter}
+use Rattle.facade.specs.Held.{heldAmong}
+use Rattle.script.specs.Reading.{longest, recordAt}
+use Rattle.script.specs.declared.Record.{Record}
+use Rattle.report.specs.Lines.{recordLine, heldLine}
+use Rattle.wire.specs.Numbers.{over}
+use Rattle.wire.proofs.Over.{over-length}
+use Rattle.report.proofs.Laws.{Put, put-none}
+use Rattle.turns.specs.declared.Progress.{Progress}
+use Rattle.turns.specs.declared.Piece.{Piece}
+use Rattle.turns.specs.Turns.{before, answerLine, linesFrom, progressFrom, UnderWay}
+use Rattle.turns.proofs.Owed.{Owed, fits-first, owed-less, owed-none}
+use Rattle.turns.proofs.Lines.{moves-past, ends-with, ends-at, stops-with, stops-at, goes-with, goes-to}
+
+-- how many hold, of a facade taken apart
+held-apart : (w : World) (ss : List Server) (ys : List Client) (ms : List Message) (n : ℕ) → n ≡ heldAmong (w .config) ys → n ≡ heldClients (facadeOf w ss ys ms)
+unfolding heldClients
+held-apart w ss ys ms n e = e
+
+-- the clients after a step, whether true time has gone on or not
+module _ (t : ℕ) (w : World) (ys zs : List Client) where
+  pub ended-by : t < w .time → zs ≡ ended w ys → zs ≡ holdsAfter t w ys
+  unfolding holdsAfter
+  ended-by h e = rw (lt-ltb t (w .time) h) e
+
+  pub stays-by : w .time ≤ t → zs ≡ ys → zs ≡ holdsAfter t w ys
+  unfolding holdsAfter
+  stays-by h e = rw (le-ltb t (w .time) h) e
+
+-- the clients are as many after a step
+pub as-many-clients : (t : ℕ) (w : World) (ys : List Client) → length (holdsAfter t w ys) ≡ length ys
+unfolding holdsAfter ended
+as-many-clients t w ys = cond-case (λ (zs : List Client). length zs ≡ length ys) (ltb t (w .time)) _ _ (λ _. length-filled _ (w .config .clients) ys) (λ _. refl)
+
+-- equal parts put together
+pub parts-equal : (w : World) (ss : List Server) {ys zs : List Client} {ms ns : List Message} → ys ≡ zs → ms ≡ ns → facadeOf w ss zs ns ≡ facadeOf w ss ys ms
+parts-equal w ss a b = rw (a, b)
+
+-- The turns of a run of script s are under way, with record k at place p next and so many left: with the lines that are owed at place j of the
+-- buffer, which is now m, all of v is put into l at place i, and the run behind them is z.
+pub record Going (s l v : List ℕ) (i : ℕ) (z : Progress) (m : List ℕ) (w : World) (ss : List Server) (ys : List Client) (ms : List Message) (j p k left : ℕ) : Type 0 where
+  pub way : UnderWay s (before (facadeOf w ss ys ms) p k false)
+  pub same : length m ≡ length l
+  pub owed : Owed l i v m j (linesFrom left (facadeOf w ss ys ms) s p k)
+  pub run : z ≡ progressFrom left (facadeOf w ss ys ms) s p k
+  pub room : i + length v + 55 ≤ length l
+
+-- They are over with the piece x.
+pub record Over (s l v : List ℕ) (i : ℕ) (z : Progress) (m : List ℕ) (x : Piece) : Type 0 where
+  pub run : x .progress ≡ z
+  pub way : UnderWay s (x .progress)
+  pub put : Put l i v (x .end) m
+
+-- the piece up to place e, with the run at record k at place p
+abbrev piece : Facade → ℕ → ℕ → Bool → ℕ → Piece
+piece f p k ended e = record { progress = before f p k ended; end = e }
+
+module _ {s l v m : List ℕ} {i j p k left : ℕ} {z : Progress} {w : World} {ss : List Server} {ys : List Client} {ms : List Message} (g : Going s l v i z m w ss ys ms j p k left) where
+  -- what is owed has room
+  fits : i + length v ≤ length m
+  fits = omega (arith, g .same, g .room)
+
+  stands : (ended : Bool) → UnderWay s (before (facadeOf w ss ys ms) p k ended)
+  stands ended = record { sound = g .way .sound; servers = g .way .servers; clients = g .way .clients; counted = g .way .counted; placed = g .way .placed; short = g .way .short }
+
+  -- no turn is left
+  pub none-left : left ≡ 0 → (x : Piece) → x ≡ piece (facadeOf w ss ys ms) p k false j → Over s l v i z m x
+  unfolding linesFrom progressFrom
+  none-left u x d = rw d (record { run = sym (rw u at (g .run)); way = stands false; put = owed-none l v m [] i j j (rw u at (g .owed)) (put-none m j) })
+
+  -- one is left
+  module _ (n : ℕ) (u : left ≡ suc n) where
+    owes : Owed l i v m j (linesFrom (suc n) (facadeOf w ss ys ms) s p k)
+    owes = rw u at (g .owed)
+
+    runs : z ≡ progressFrom (suc n) (facadeOf w ss ys ms) s p k
+    runs = rw u at (g .run)
+
+    -- the end is reached, and the last line is put
+    pub last-put : length s ≤ p → (c : ℕ) → c ≡ heldAmong (w .config) ys → {e : ℕ} {m₁ : List ℕ} → Put m j (heldLine c) e m₁
+        → (x : Piece) → x ≡ piece (facadeOf w ss ys ms) p k true e → Over s l v i z m₁ x
+    last-put h c q {e} {m₁} t x d =
+        let f = facadeOf w ss ys ms in
+        rw d (record { run = ends-at n f s p k h ∙ sym runs; way = stands true; put = owed-none l v m (heldLine c) i j e (rw (ends-with n f s p k h, ← held-apart w ss ys ms c q) at owes) t })
+
+    -- r is the record at p, before the end
+    module _ (r : Record) (h : p < length s) (e : r ≡ recordAt s p) where
+      -- it has refusal 3, and its line and the last one are put
+      pub stop-put : r .refusal ≡ 3 → (c : ℕ) → c ≡ heldAmong (w .config) ys → {a b : ℕ} {m₁ m₂ : List ℕ} → Put m j (recordLine k 3 0 (w .time) (w .waiting)) a m₁
+          → Put m₁ a (heldLine c) b m₂ → (x : Piece) → x ≡ piece (facadeOf w ss ys ms) p k true b → Over s l v i z m₂ x
+      stop-put t c q {a} {b} {m₁} o y x d =
+          let f = facadeOf w ss ys ms in
+          let line = recordLine k 3 0 (w .time) (w .waiting) in
+          let rest : linesFrom (suc n) f s p k ≡ line ++ heldLine c = rw (held-apart w ss ys ms c q) (stops-with n f s p k r h e t) in
+          let two : Owed l i v m j (line ++ heldLine c) = rw rest at owes in
+          rw d (record {
+            run = stops-at n f s p k r h e t ∙ sym runs;
+            way = stands true;
+            put = owed-none l v m₁ (heldLine c) i a b (owed-less l v m line (heldLine c) i j a (fits-first l v m line (heldLine c) i j two fits) two o) y;
+          })
+
+      -- any other has its line put, and the turns go on from the facade that its step gives
+      pub goes-round : (r .refusal ≡ 3 → ⊥) → (x : Answer) → x ≡ step (facadeOf w ss ys ms) (r .step)
+          → {w₁ : World} {ss₁ : List Server} {ys₁ : List Client} {ms₁ : List Message} → x .facade ≡ facadeOf w₁ ss₁ ys₁ ms₁ → length ss₁ ≡ length ss → length ys₁ ≡ length ys
+          → {a : ℕ} {m₁ : List ℕ} → Put m j (answerLine k x) a m₁ → Going s l v i z m₁ w₁ ss₁ ys₁ ms₁ a (r .next) (k + 1) n
+      goes-round t x d {w₁} {ss₁} {ys₁} {ms₁} q servers clients {a} {m₁} o =
+          let f = facadeOf w ss ys ms in
+          let on = moves-past s p r e t in
+          let two = rw (goes-with n f s p k r h e x d t) at owes in
+          let first = fits-first l v m (answerLine k x) _ i j two fits in
+          let sound : Sound (x .facade) = rw d (step-sound f (r .step) (g .way .sound)) in
+          let counted : 2 * (k + 1) + 27 ≤ r .next = omega (arith, on, g .way .counted) in
+          let placed : r .next ≤ longest = omega (arith, on, g .way .short) in
+          record {
+            way = record {
+              sound = rw q at sound;
+              servers = servers ∙ g .way .servers;
+              clients = clients ∙ g .way .clients;
+              counted = counted;
+              placed = placed;
+              short = g .way .short;
+            };
+            same = rw (o .1) (over-length m j (answerLine k x) first) ∙ g .same;
+            owed = rw q at (owed-less l v m (answerLine k x) _ i j a first two o);
+            run = rw q at (runs ∙ goes-to n f s p k r h e x d t);
+            room = g .room;
+          }
+
+-- The turns of the run r, whose facade was taken apart, are over: that is what is promised of them.
+pub done : (l m s : List ℕ) (start most : ℕ) (r : Progress) (w : World) → w ≡ worldOf (r .facade) → (x : Piece)
+    → let f = facadeOf w (r .facade .servers) (r .facade .clients) (r .facade .messages) in
+    Over s l (linesFrom most f s (r .place) (r .number)) start (progressFrom most f s (r .place) (r .number)) m x
+    → ((x .progress ≡ progressFrom most (r .facade) s (r .place) (r .number)) × UnderWay s (x .progress)
+    × (x .end ≡ start + length (linesFrom most (r .facade) s (r .place) (r .number)))) × (m ≡ over l start (linesFrom most (r .facade) s (r .place) (r .number)))
+done l m s start most r w e x o = ((rw e at (o .run), o .way, rw e at (o .put .0)), rw e at (o .put .1))
