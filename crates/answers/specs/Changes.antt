@@ -16,10 +16,9 @@ use Rattle.types.specs.declared.World.{World}
 use Rattle.types.specs.declared.Lives.{Lives}
 use Rattle.types.specs.declared.Change.{Change}
 use Rattle.rules.specs.Parts.{noServer, noClient, noMessage}
-use Rattle.rules.specs.Ranges.{mostWaiting}
+use Rattle.rules.specs.Ranges.{mostWaiting, Sound}
 use Rattle.rules.specs.Messages.{nothing}
 use Rattle.rules.specs.Steps.{refused, step}
-use Rattle.rules.proofs.Ranges.{Sound}
 use Rattle.world.specs.Apart.{facadeOf, waitingIn, livesOf, messagePlace, serverPlace, clientPlace, holdsAfter, restOf, exchanged}
 
 -- In what follows w is the world before the step, own the server and y the client at hand. g is the world in which a party acts: w with the
@@ -103,7 +102,7 @@ abbrev pub Gives : World → Server → Client → Step → Change → Type 0
 Gives w own y s x = ((l : Lives) (m : Message) → Answers w l own y m s x) × Fits w s x
 
 -- w is the world of a facade in range
-pub record Ranged (w : World) : Type 0 where
+pub record WorldInRange (w : World) : Type 0 where
   pub servers : List Server
   pub clients : List Client
   pub messages : List Message

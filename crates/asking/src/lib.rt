@@ -11,7 +11,7 @@ use types::Step;
 use types::World;
 ghost use mathlib.Core.Path.{_≡_};
 ghost use lib.Dec.{leb};
-ghost use Rattle.answers.specs.Changes.{Gives, Ranged};
+ghost use Rattle.answers.specs.Changes.{Gives, WorldInRange};
 
 // Refusal 12: whether there is an interaction number left to use.
 fn is_interaction_left(next: u32) -> bool
@@ -22,7 +22,7 @@ fn is_interaction_left(next: u32) -> bool
 
 // Step 5: discover.
 pub fn discover_step(w: World, own: Server, y: Client, s: Step) -> Change
-    requires { ⌜ Ranged w × (s .kind ≡ 5) ⌝ }
+    requires { ⌜ WorldInRange w × (s .kind ≡ 5) ⌝ }
     ensures { λ x. ⌜ Gives w own y s x ⌝ }
 {
     let c = w.config;
@@ -44,7 +44,7 @@ pub fn discover_step(w: World, own: Server, y: Client, s: Step) -> Change
 
 // Step 6: request.
 pub fn request_step(w: World, own: Server, y: Client, s: Step) -> Change
-    requires { ⌜ Ranged w × (s .kind ≡ 6) ⌝ }
+    requires { ⌜ WorldInRange w × (s .kind ≡ 6) ⌝ }
     ensures { λ x. ⌜ Gives w own y s x ⌝ }
 {
     let c = w.config;
@@ -64,7 +64,7 @@ pub fn request_step(w: World, own: Server, y: Client, s: Step) -> Change
 
 // Step 7: renew.
 pub fn renew_step(w: World, own: Server, y: Client, s: Step) -> Change
-    requires { ⌜ Ranged w × (s .kind ≡ 7) ⌝ }
+    requires { ⌜ WorldInRange w × (s .kind ≡ 7) ⌝ }
     ensures { λ x. ⌜ Gives w own y s x ⌝ }
 {
     let c = w.config;

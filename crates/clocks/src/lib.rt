@@ -9,15 +9,14 @@ use types::Client;
 use types::Config;
 use types::World;
 ghost use mathlib.Core.Path.{_≡_};
-ghost use mathlib.Core.Bool.{false, not};
+ghost use mathlib.Core.Bool.{false};
 ghost use Prim.Native.Nat.{_+_, _*_, _≤_, _<_};
-ghost use lib.Dec.{leb, eqb};
 ghost use lib.IntN.{pos, natAbs, _+ℤ_};
 ghost use lib.ListN.{getD, set};
 ghost use Rattle.types.specs.declared.Server.{Server};
-ghost use Rattle.rules.specs.Conditions.{_or_, all};
+ghost use Rattle.rules.specs.Conditions.{all};
 ghost use Rattle.rules.specs.Clock.{plus};
-ghost use Rattle.rules.specs.Steps.{offsetAllows, isSoOf, rowNow};
+ghost use Rattle.rules.specs.Steps.{offsetAllows, hasHeard, isInTouch, isSoOf, rowNow};
 ghost use Rattle.rules.proofs.Kept.{Configured};
 ghost use Rattle.world.specs.Apart.{timeIn, ended, holdsAfter};
 
@@ -42,7 +41,7 @@ pub fn does_clock_allow(c: Config, o: i32, d: u32, e: i32) -> bool
 // Server k had a notice about server j at most ν before `now`, or is that server, by the notice times.
 fn has_heard(c: Config, ts: [u32; 16], now: u32, k: u32, j: u32) -> bool
     requires { ⌜ (k < 4) × (j < 4) ⌝ }
-    ensures { λ r. ⌜ r ≡ (eqb j k or leb now (getD ts (k * 4 + j) 0 + c .silence)) ⌝ }
+    ensures { λ r. ⌜ r ≡ hasHeard c ts now k j ⌝ }
 {
     let at = (k * 4 + j) as usize;
     let last = (ts[at] as u64) + (c.silence as u64);
@@ -52,7 +51,7 @@ fn has_heard(c: Config, ts: [u32; 16], now: u32, k: u32, j: u32) -> bool
 // Server k had a notice about every other within ν.
 fn is_heard_by(c: Config, ts: [u32; 16], now: u32, k: u32) -> bool
     requires { ⌜ (k < 4) × (c .servers ≤ 4) ⌝ }
-    ensures { λ r. ⌜ r ≡ all (λ j. eqb j k or leb now (getD ts (k * 4 + j) 0 + c .silence)) (c .servers) ⌝ }
+    ensures { λ r. ⌜ r ≡ all (hasHeard c ts now k) (c .servers) ⌝ }
 {
     let count = c.servers;
     let mut ok = true;
@@ -67,7 +66,7 @@ fn is_heard_by(c: Config, ts: [u32; 16], now: u32, k: u32) -> bool
 // Refusal 10: no live server is more than ν without a notice about another, by the notice times.
 pub fn is_in_touch(c: Config, ts: [u32; 16], alive: [bool; 4], now: u32) -> bool
     requires { ⌜ c .servers ≤ 4 ⌝ }
-    ensures { λ r. ⌜ r ≡ all (λ k. not (getD alive k false) or all (λ j. eqb j k or leb now (getD ts (k * 4 + j) 0 + c .silence)) (c .servers)) (c .servers) ⌝ }
+    ensures { λ r. ⌜ r ≡ all (λ k. isInTouch c ts now k (getD alive k false)) (c .servers) ⌝ }
 {
     let count = c.servers;
     let mut ok = true;

@@ -16,12 +16,12 @@ ghost use Prim.Native.Nat.{_≤_, _<_};
 ghost use lib.Dec.{T};
 ghost use Rattle.types.specs.declared.Lives.{Lives};
 ghost use Rattle.rules.specs.Ranges.{messageInRange};
-ghost use Rattle.answers.specs.Changes.{Answers, Fits, Ranged};
+ghost use Rattle.answers.specs.Changes.{Answers, Fits, WorldInRange};
 ghost use Rattle.delivery.specs.Handling.{handles};
 
 // Message m is handled by the party that it is for; it is taken out first if `taken`.
 fn handle(w: World, own: Server, y: Client, m: Message, taken: bool) -> Change
-    requires { ⌜ Ranged w × T (messageInRange (w .config) (w .next) m) × (T taken → 1 ≤ w .waiting) ⌝ }
+    requires { ⌜ WorldInRange w × T (messageInRange (w .config) (w .next) m) × (T taken → 1 ≤ w .waiting) ⌝ }
     ensures { λ x. ⌜ x ≡ handles w own y m taken ⌝ }
 {
     let c = w.config;
@@ -36,7 +36,7 @@ fn handle(w: World, own: Server, y: Client, m: Message, taken: bool) -> Change
 }
 
 pub fn deliver_step(w: World, own: Server, y: Client, m: Message, s: Step) -> Change
-    requires { ⌜ Ranged w × (s .kind ≡ 8) × (s .first < w .waiting → T (messageInRange (w .config) (w .next) m)) ⌝ }
+    requires { ⌜ WorldInRange w × (s .kind ≡ 8) × (s .first < w .waiting → T (messageInRange (w .config) (w .next) m)) ⌝ }
     ensures { λ x. ⌜ ((l : Lives) → Answers w l own y m s x) × Fits w s x ⌝ }
 {
     if !fields_in_range(s) {

@@ -4,7 +4,7 @@ use mathlib.Core.List.{List, [], _∷_}
 use mathlib.Core.Bool.{Bool, true, false, not}
 use Prim.Native.Nat.{ℕ, zero, suc, _+_, _*_, _≤_, _<_}
 use native.Mathlib.Omega.{arith}
-use lib.Dec.{T, leb, ltb, eqb, leb→le, ltb→lt}
+use lib.Dec.{T, ltb, eqb, leb→le, ltb→lt}
 use lib.IntN.{ℤ, natAbs}
 use lib.ListN.{getD, set}
 use Rattle.types.specs.declared.Config.{Config}
@@ -13,13 +13,13 @@ use Rattle.types.specs.declared.ServerAnswer.{ServerAnswer}
 use Rattle.types.specs.declared.Step.{Step}
 use Rattle.types.specs.declared.Facade.{Facade}
 use Rattle.types.specs.declared.Lives.{Lives}
-use Rattle.rules.specs.Conditions.{_and_, _or_, within, all}
+use Rattle.rules.specs.Conditions.{_and_, within, all}
 use Rattle.rules.specs.Clock.{signed}
 use Rattle.rules.specs.Parts.{noServer, serverAt, offsetAt, clock, withNotices, withLife, withServer}
 use Rattle.rules.specs.Messages.{without}
 use Rattle.rules.specs.Ranges.{inRange}
 use Rattle.rules.specs.Server.{noticed, afterReturn, cleaned}
-use Rattle.rules.specs.Steps.{pass, fail, return, notice, lose, cleanup, unknown, isKnown, fieldsInRange, exists, stateAllows, ofPass, timeLeft, offsetAllows, clockAllows, inTouch, ofNotice, isSoOf, isCredible, interactionLeft, accepted, refused, serverActs, moved, lapse, effect, action, answerTo, rowNow}
+use Rattle.rules.specs.Steps.{pass, fail, return, notice, lose, cleanup, unknown, isKnown, fieldsInRange, exists, stateAllows, ofPass, timeLeft, offsetAllows, clockAllows, isInTouch, inTouch, ofNotice, isSoOf, isCredible, interactionLeft, accepted, refused, serverActs, moved, lapse, effect, action, answerTo, rowNow}
 use Rattle.rules.proofs.Laws.{true-of, and-l, and-r, within-low, within-high}
 use Rattle.rules.proofs.Actions.{action-pass, action-notice}
 use Rattle.rules.proofs.Refusals.{refused-4, refused-5, refused-6, refused-7, refused-8, refused-9, refused-10, refused-11, unless-full}
@@ -233,7 +233,7 @@ all-same p q (suc n) h = rw (h n (omega arith), all-same p q n (λ i u. h i (ome
 
 -- refusal 10, by the lives
 pub touch-by : (f : Facade) → T (inRange f) → (l : Lives) → livesOf (f .servers) ≡ l → (d p : ℕ) (z : ℤ)
-    → all (λ k. not (getD (l .alive) k false) or all (λ j. eqb j k or leb (f .time + d) (getD (f .notices) (k * 4 + j) 0 + f .config .silence)) (f .config .servers)) (f .config .servers)
+    → all (λ k. isInTouch (f .config) (f .notices) (f .time + d) k (getD (l .alive) k false)) (f .config .servers)
     ≡ inTouch f d p z
 unfolding inTouch
 touch-by f t l e d p z =

@@ -20,11 +20,11 @@ use types::Step;
 use types::World;
 ghost use mathlib.Core.Path.{_≡_};
 ghost use Rattle.types.specs.declared.Message.{Message};
-ghost use Rattle.answers.specs.Changes.{Answers, Fits, Gives, Ranged};
+ghost use Rattle.answers.specs.Changes.{Answers, Fits, Gives, WorldInRange};
 
 // Step 1: pass. Holds end where the change is put in: see `clocks::end_holds`.
 pub fn pass_step(w: World, l: Lives, own: Server, y: Client, s: Step) -> Change
-    requires { ⌜ Ranged w × (s .kind ≡ 1) ⌝ }
+    requires { ⌜ WorldInRange w × (s .kind ≡ 1) ⌝ }
     ensures { λ x. ⌜ ((m : Message) → Answers w l own y m s x) × Fits w s x ⌝ }
 {
     let c = w.config;
@@ -54,7 +54,7 @@ pub fn pass_step(w: World, l: Lives, own: Server, y: Client, s: Step) -> Change
 
 // Step 2: fail.
 pub fn fail_step(w: World, own: Server, y: Client, s: Step) -> Change
-    requires { ⌜ Ranged w × (s .kind ≡ 2) ⌝ }
+    requires { ⌜ WorldInRange w × (s .kind ≡ 2) ⌝ }
     ensures { λ x. ⌜ Gives w own y s x ⌝ }
 {
     if w.config.servers <= s.first {
@@ -71,7 +71,7 @@ pub fn fail_step(w: World, own: Server, y: Client, s: Step) -> Change
 
 // Step 3: return.
 pub fn return_step(w: World, own: Server, y: Client, s: Step) -> Change
-    requires { ⌜ Ranged w × (s .kind ≡ 3) ⌝ }
+    requires { ⌜ WorldInRange w × (s .kind ≡ 3) ⌝ }
     ensures { λ x. ⌜ Gives w own y s x ⌝ }
 {
     let k = s.first;
@@ -95,7 +95,7 @@ pub fn return_step(w: World, own: Server, y: Client, s: Step) -> Change
 
 // Step 4: notice.
 pub fn notice_step(w: World, l: Lives, own: Server, y: Client, s: Step) -> Change
-    requires { ⌜ Ranged w × (s .kind ≡ 4) ⌝ }
+    requires { ⌜ WorldInRange w × (s .kind ≡ 4) ⌝ }
     ensures { λ x. ⌜ ((m : Message) → Answers w l own y m s x) × Fits w s x ⌝ }
 {
     let c = w.config;
@@ -124,7 +124,7 @@ pub fn notice_step(w: World, l: Lives, own: Server, y: Client, s: Step) -> Chang
 
 // Step 9: lose.
 pub fn lose_step(w: World, own: Server, y: Client, s: Step) -> Change
-    requires { ⌜ Ranged w × (s .kind ≡ 9) ⌝ }
+    requires { ⌜ WorldInRange w × (s .kind ≡ 9) ⌝ }
     ensures { λ x. ⌜ Gives w own y s x ⌝ }
 {
     if w.waiting <= s.first {
@@ -135,7 +135,7 @@ pub fn lose_step(w: World, own: Server, y: Client, s: Step) -> Change
 
 // Step 10: cleanup.
 pub fn cleanup_step(w: World, own: Server, y: Client, s: Step) -> Change
-    requires { ⌜ Ranged w × (s .kind ≡ 10) ⌝ }
+    requires { ⌜ WorldInRange w × (s .kind ≡ 10) ⌝ }
     ensures { λ x. ⌜ Gives w own y s x ⌝ }
 {
     let c = w.config;

@@ -17,11 +17,11 @@ use Rattle.types.specs.declared.Lives.{Lives}
 use Rattle.types.specs.declared.Change.{Change}
 use Rattle.types.specs.declared.Step.{Step}
 use Rattle.rules.specs.Parts.{noServer, noClient, noMessage, messageAt}
-use Rattle.rules.specs.Ranges.{inRange, messageInRange}
+use Rattle.rules.specs.Ranges.{inRange, messageInRange, Sound}
 use Rattle.rules.specs.Steps.{unknown, isKnown, refused, answerTo, step}
 use Rattle.rules.proofs.Laws.{true-of}
 use Rattle.rules.proofs.Kept.{ranged}
-use Rattle.rules.proofs.Ranges.{Sound, step-sound}
+use Rattle.rules.proofs.Ranges.{step-sound}
 use Rattle.rules.proofs.Refusals.{refused-4}
 use Rattle.world.specs.Apart.{facadeOf, livesOf, messagePlace, serverPlace, clientPlace}
 use Rattle.world.proofs.Laws.{place-named}

@@ -43,7 +43,7 @@ ghost use Rattle.rules.specs.Parts.{noClient};
 ghost use Rattle.rules.specs.Client.{isHolding};
 ghost use Rattle.rules.specs.Ranges.{inRange, messageInRange};
 ghost use Rattle.rules.specs.Steps.{fresh as freshFacade, start, refused as refusedWith, step as stepOf, heldClients};
-ghost use Rattle.answers.specs.Changes.{Answers, Fits, Ranged};
+ghost use Rattle.answers.specs.Changes.{Answers, Fits, WorldInRange};
 ghost use Rattle.facade.specs.Held.{heldAmong};
 
 // Before any step. All places are filled alike.
@@ -95,7 +95,7 @@ pub fn fresh(c: Config) -> Answer
 // What a step changes in a facade that is in range: by its world, the lives of its servers, and the server, the client and
 // the message at hand. The kind number decides it.
 pub fn change(w: World, l: Lives, own: Server, y: Client, m: Message, s: Step) -> Change
-    requires { ⌜ Ranged w × (s .first < w .waiting → T (messageInRange (w .config) (w .next) m)) ⌝ }
+    requires { ⌜ WorldInRange w × (s .first < w .waiting → T (messageInRange (w .config) (w .next) m)) ⌝ }
     ensures { λ x. ⌜ Answers w l own y m s x × Fits w s x ⌝ }
 {
     let kind = s.kind;

@@ -3,17 +3,16 @@ use mathlib.Core.Path.{_≡_, sym, _∙_}
 use mathlib.Core.Bool.{Bool}
 use Prim.Native.Nat.{ℕ, _+_}
 use native.Mathlib.Numerals.{add-one}
-use lib.Dec.{ltb}
 use lib.ListN.{set}
 use Rattle.types.specs.declared.Config.{Config}
 use Rattle.types.specs.declared.Reserved.{Reserved}
 use Rattle.types.specs.declared.Server.{Server}
 use Rattle.rules.specs.Conditions.{_and_, filled}
 use Rattle.rules.specs.Parts.{leadsAt, reservedAt, recordAt, withReserved}
-use Rattle.rules.specs.Server.{expirySlack, expired, isFree, offerable, freedIfOf}
+use Rattle.rules.specs.Server.{hasPassed, expired, isFree, offerable, freedIfOf}
 
 -- whether an address may be offered, by its parts
-pub offerable-parts : (c : Config) (r : ℕ) (s : Server) (a : ℕ) (x b : Bool) → x ≡ (leadsAt s a and isFree (reservedAt s a) and ltb (recordAt s a + expirySlack c) r) → x ≡ b
+pub offerable-parts : (c : Config) (r : ℕ) (s : Server) (a : ℕ) (x b : Bool) → x ≡ (leadsAt s a and isFree (reservedAt s a) and hasPassed c r (recordAt s a)) → x ≡ b
     → offerable c r s a ≡ b
 unfolding offerable expired
 offerable-parts c r s a x b e d = sym e ∙ d

@@ -18,19 +18,18 @@ use types::Server;
 use types::ServerAnswer;
 ghost use mathlib.Core.Path.{_≡_};
 ghost use mathlib.Core.Bool.{true, false};
-ghost use Prim.Native.Nat.{_+_, _≤_, _<_, max};
-ghost use lib.Dec.{ltb};
+ghost use Prim.Native.Nat.{_≤_, _<_, max};
 ghost use lib.ListN.{set, replicate};
 ghost use Rattle.rules.specs.Conditions.{_and_, lowest};
 ghost use Rattle.rules.specs.Parts.{message, recordAt, withLease};
 ghost use Rattle.rules.specs.Messages.{nothing as nothingSent, post as posted, toOthers};
-ghost use Rattle.rules.specs.Server.{opened, expirySlack, isFree, offerable, offers, onDiscover, granted, freedIfOf, dropped, onRequest, onRenew};
+ghost use Rattle.rules.specs.Server.{opened, hasPassed, isFree, offerable, offers, onDiscover, granted, freedIfOf, dropped, onRequest, onRenew};
 ghost use Rattle.rules.proofs.Kept.{Configured};
 
 // Whether the record v has passed by more than 2Δ.
 fn is_expired(c: Config, r: u32, v: u32) -> bool
     requires { ⌜ Configured c ⌝ }
-    ensures { λ x. ⌜ x ≡ ltb (v + expirySlack c) r ⌝ }
+    ensures { λ x. ⌜ x ≡ hasPassed c r v ⌝ }
 {
     (v as u64) + ((2 * c.skew) as u64) < (r as u64)
 }
@@ -48,7 +47,7 @@ fn is_free(x: Reserved) -> bool
 // It takes the parts of one address, because a server handed by value is copied whole.
 fn is_offerable(c: Config, r: u32, leads: bool, state: Reserved, v: u32) -> bool
     requires { ⌜ Configured c ⌝ }
-    ensures { λ x. ⌜ x ≡ (leads and isFree state and ltb (v + expirySlack c) r) ⌝ }
+    ensures { λ x. ⌜ x ≡ (leads and isFree state and hasPassed c r v) ⌝ }
 {
     both(leads, both(is_free(state), is_expired(c, r, v)))
 }

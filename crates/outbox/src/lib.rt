@@ -3,8 +3,7 @@ use types::Body;
 use types::Message;
 use types::Outbox;
 ghost use mathlib.Core.Path.{_≡_};
-ghost use mathlib.Core.Bool.{Bool};
-ghost use Prim.Native.Nat.{ℕ, _≤_};
+ghost use Prim.Native.Nat.{_≤_};
 ghost use Rattle.rules.specs.Parts.{message, noMessage};
 ghost use Rattle.rules.specs.Messages.{nothing as nothingSent, post as posted, postUnless, toEach, toOthers};
 

@@ -1,6 +1,5 @@
--- What the rig prints for a script, as bytes: "`facade S C A`, then per record: its number from 1, refusal (0 if none), outcome
--- (0 if refused), true time, waiting messages. Refusal 3 ends the run after its line. Last comes `held` and how many clients hold.
--- Refusals 1 and 2 print only `0 1 0 0 0` or `0 2 0 0 0`."
+-- What the rig prints for a script, as bytes: "`facade S C A`", then the lines of the records and the last line (`Turns` of crate `turns`).
+-- "Refusals 1 and 2 print only `0 1 0 0 0` or `0 2 0 0 0`."
 use mathlib.Core.Bool.{not, cond}
 use mathlib.Core.List.{List, [], _++_}
 use Prim.Native.Nat.{ℕ, _+_}

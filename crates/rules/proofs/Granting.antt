@@ -24,7 +24,7 @@ use Rattle.rules.specs.Conditions.{_and_, all}
 use Rattle.rules.specs.Parts.{noServer, noWrite, serverAt, clock, clientParty, message, leadsAt, lentAt, recordAt, writeAt, withReserved, withLease, withRecord, withWrite}
 use Rattle.rules.specs.Ranges.{isClient, bodyInRange, messageInRange}
 use Rattle.rules.specs.Messages.{nothing, post}
-use Rattle.rules.specs.Server.{answer, closed, opened, expirySlack, expired, offers, onDiscover, writtenEnd, ackEnd, granted, dropped, grantable, grants, onRequest, onRenew, onWrite, matchesWrite, acknowledged, onWriteAck, serverHandles, serverReceives}
+use Rattle.rules.specs.Server.{answer, closed, opened, expirySlack, hasPassed, expired, offers, onDiscover, writtenEnd, ackEnd, granted, dropped, grantable, grants, onRequest, onRenew, onWrite, matchesWrite, acknowledged, onWriteAck, serverHandles, serverReceives}
 use Rattle.rules.proofs.Laws.{Or, inl, inr, and-l, and-r, cond-case, all-at, set-case, set-any, rep-ind}
 use Rattle.rules.proofs.Cable.{Waits, Posted, ToServer, posted-nothing, posted-one, posted-others}
 use Rattle.rules.proofs.Kept.{Configured, configured, Ranged}
@@ -219,7 +219,7 @@ module _ (f : Facade) (g : Ranged f) (four : length (f .servers) ≡ 4) (one : O
   pub keeps-request : T ((serverAt f k) .alive) → (p q a t : ℕ) → a < f .config .addresses → Keeps (onRequest (f .config) k (clock f k) (serverAt f k) p q a t)
   unfolding onRequest grants dropped grantable expired
   keeps-request al p q a t ha =
-      cond-case Keeps (leadsAt (serverAt f k) a and ltb (recordAt (serverAt f k) a + expirySlack (f .config)) (clock f k)) _ _
+      cond-case Keeps (leadsAt (serverAt f k) a and hasPassed (f .config) (clock f k) (recordAt (serverAt f k) a)) _ _
       (λ y. let past : recordAt (serverAt f k) a + expirySlack (f .config) < clock f k = ltb→lt _ _ (and-r (leadsAt (serverAt f k) a) _ y) in
       keeps-grant al _ p q a t (clock f k + f .config .mclt) ha (and-l _ _ y)
       (λ j hj. omega (arith, high))

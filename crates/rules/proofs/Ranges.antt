@@ -32,7 +32,7 @@ use Rattle.types.specs.declared.ServerAnswer.{ServerAnswer}
 use Rattle.types.specs.declared.ClientAnswer.{ClientAnswer}
 use Rattle.rules.specs.Conditions.{_and_, unless, all, lowest, filled}
 use Rattle.rules.specs.Parts.{noServer, noReservation, noWrite, noClient, noMessage, reservedAt, lentAt, recordAt, writeAt, leadsAt, withLife, withLeading, withReserved, withRecord, withWrite, message, clientParty, parties, serverAt, stateAt, messageAt, offsetAt, clock, withServer, withNotices, withClients, withClient, withTime, withNext}
-use Rattle.rules.specs.Ranges.{configInRange, interactionInRange, offsetInRange, reservationInRange, writeInRange, addressInRange, serverInRange, stateInRange, isServer, isClient, bodyInRange, messageInRange, inRange, endInRange, readingInRange, lastTime, lastInteraction, mostWaiting}
+use Rattle.rules.specs.Ranges.{configInRange, interactionInRange, offsetInRange, reservationInRange, writeInRange, addressInRange, serverInRange, stateInRange, isServer, isClient, bodyInRange, messageInRange, inRange, endInRange, readingInRange, lastTime, lastInteraction, mostWaiting, Sound}
 use Rattle.rules.specs.Messages.{nothing, post, sendAll, without}
 use Rattle.rules.specs.Server.{answer, closed, opened, leadRecord, leadsAfter, recordAfter, leadingWith, noticed, afterReturn, freedIfOld, cleaned, offerable, offers, onDiscover, granted, freedIfOf, dropped, grantable, grants, onRequest, onRenew, onWrite, matchesWrite, acknowledged, onWriteAck, serverHandles, serverReceives}
 use Rattle.rules.specs.Client.{isHolding, reply, broadcast, lapsed, discovers, requests, renews, asksWith, onOffer, expects, onAck, clientHandles}
@@ -542,10 +542,6 @@ fresh-in-range c h = in-range (fresh c) (record {
 
     none : (w a : ℕ) → a < c .addresses → T (endInRange (getD (replicate w 0) a 0))
     none w a _ = rep-ind (λ x. T (endInRange x)) w 0 0 a tt tt
-
--- a facade in range, its message array at its length
-abbrev pub Sound : Facade → Type 0
-Sound f = T (inRange f) × (length (f .messages) ≡ 128)
 
 pub step-sound : (f : Facade) (s : Step) → Sound f → Sound ((step f s) .facade)
 unfolding step answerTo

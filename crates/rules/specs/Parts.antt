@@ -169,9 +169,12 @@ offsetAt f p = getD (f .offsets) p (pos 0)
 abbrev pub clock : Facade → ℕ → ℕ
 clock f p = plus (f .time) (offsetAt f p)
 
--- the true time at which server k last had a notice about server j
+-- the true time at which server k last had a notice about server j, by the notice times ts and of a facade
+abbrev pub noticeIn : List ℕ → ℕ → ℕ → ℕ
+noticeIn ts k j = getD ts (k * 4 + j) 0
+
 abbrev pub noticeAt : Facade → ℕ → ℕ → ℕ
-noticeAt f k j = getD (f .notices) (k * 4 + j) 0
+noticeAt f k j = noticeIn (f .notices) k j
 
 abbrev pub withServer : Facade → ℕ → Server → Facade
 withServer f k s = record {

@@ -1,9 +1,11 @@
 -- The ranges: of a configuration and of a facade handed in (refusal 2).
 -- Places from S, C, A and the waiting count on are no part of a facade: they are not looked at.
+use mathlib.Core.Path.{_≡_}
 use mathlib.Core.Bool.{Bool, true, false}
 use Prim.Native.Nat.{ℕ, _+_}
-use lib.Dec.{leb, ltb, eqb}
+use lib.Dec.{T, leb, ltb, eqb}
 use lib.IntN.{ℤ, natAbs}
+use lib.ListN.{length}
 use Rattle.types.specs.declared.Config.{Config}
 use Rattle.types.specs.declared.Reserved.{Reserved}
 use Rattle.types.specs.declared.Reserved.the-variants.{Free, Taken}
@@ -122,3 +124,7 @@ inRange f =
     and all (λ k. all (noticeInRange f k) (f .config .servers)) (f .config .servers)
     and all (λ i. stateInRange (f .config) (f .next) (stateAt f i)) (f .config .clients)
     and all (λ p. messageInRange (f .config) (f .next) (messageAt f p)) (f .waiting)
+
+-- a facade in range, its message array at its length
+abbrev pub Sound : Facade → Type 0
+Sound f = T (inRange f) × (length (f .messages) ≡ 128)

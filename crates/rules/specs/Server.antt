@@ -107,9 +107,12 @@ cleaned c r s = answer (withReserved s (filled (λ a. record { state = freedIfOl
 abbrev pub expirySlack : Config → ℕ
 expirySlack c = 2 * c .skew
 
--- "record + 2Δ < clock"
+-- "record + 2Δ < clock", of a record v and of the record of address a
+abbrev pub hasPassed : Config → ℕ → ℕ → Bool
+hasPassed c r v = ltb (v + expirySlack c) r
+
 unfoldable pub expired : Config → ℕ → Server → ℕ → Bool
-expired c r s a = ltb (recordAt s a + expirySlack c) r
+expired c r s a = hasPassed c r (recordAt s a)
 
 unfoldable pub isFree : Reserved → Bool
 isFree Free = true

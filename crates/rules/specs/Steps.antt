@@ -15,7 +15,7 @@ use Rattle.types.specs.declared.ServerAnswer.{ServerAnswer}
 use Rattle.types.specs.declared.ClientAnswer.{ClientAnswer}
 use Rattle.rules.specs.Conditions.{_and_, _or_, within, unless, all, counted, filled}
 use Rattle.rules.specs.Clock.{notNegative, signed}
-use Rattle.rules.specs.Parts.{serverAt, stateAt, messageAt, offsetAt, noticeAt, clock, clientParty, parties, inState, noClient, noMessage, withLife, withServer, withNotices, withClient, withClients, withTime, withNext}
+use Rattle.rules.specs.Parts.{serverAt, stateAt, messageAt, offsetAt, noticeIn, clock, clientParty, parties, inState, noClient, noMessage, withLife, withServer, withNotices, withClient, withClients, withTime, withNext}
 use Rattle.rules.specs.Ranges.{configInRange, inRange, endInRange, isServer, lastTime, lastInteraction, mostWaiting}
 use Rattle.rules.specs.Messages.{sendAll, without}
 use Rattle.rules.specs.Server.{noticed, clearedServer, afterReturn, cleaned, serverReceives}
@@ -154,11 +154,17 @@ offsetAllows c o d e = notNegative d e and leb (natAbs (o +ℤ e)) (c .skew)
 unfoldable pub clockAllows : Facade → ℕ → ℕ → ℤ → Bool
 clockAllows f d p e = offsetAllows (f .config) (offsetAt f p) d e
 
--- Refusal 10. "A pass would leave a live server more than ν without a notice about another."
+-- Refusal 10. "A pass would leave a live server more than ν without a notice about another." By the notice times ts and the true time t
+-- after it, server k had a notice about server j within ν, or is that server.
+abbrev pub hasHeard : Config → List ℕ → ℕ → ℕ → ℕ → Bool
+hasHeard c ts t k j = eqb j k or leb t (noticeIn ts k j + c .silence)
+
+-- server k, if it is alive, had one about every other
+abbrev pub isInTouch : Config → List ℕ → ℕ → ℕ → Bool → Bool
+isInTouch c ts t k alive = not alive or all (hasHeard c ts t k) (c .servers)
+
 unfoldable pub inTouch : Facade → ℕ → ℕ → ℤ → Bool
-inTouch f d p e =
-    all (λ k. not ((serverAt f k) .alive) or all (λ j. eqb j k or leb (f .time + d) (noticeAt f k j + f .config .silence)) (f .config .servers))
-    (f .config .servers)
+inTouch f d p e = all (λ k. isInTouch (f .config) (f .notices) (f .time + d) k ((serverAt f k) .alive)) (f .config .servers)
 
 -- Refusal 11. "A dead notice about a server alive for ν or more since c, or an alive notice about one dead for ν or more." The server is s, true time t.
 abbrev pub isSoOf : Config → ℕ → Server → ℕ → Bool

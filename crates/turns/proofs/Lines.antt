@@ -11,10 +11,11 @@ use Rattle.types.specs.declared.Facade.{Facade}
 use Rattle.types.specs.declared.Step.{Step}
 use Rattle.types.specs.declared.Answer.{Answer}
 use Rattle.rules.specs.Conditions.{_and_}
+use Rattle.rules.specs.Ranges.{Sound}
 use Rattle.rules.specs.Steps.{step, heldClients}
 use Rattle.rules.proofs.Laws.{and-r, cond-case, not-eqb}
 use Rattle.rules.proofs.Kept.{ranged}
-use Rattle.rules.proofs.Ranges.{Sound, step-sound}
+use Rattle.rules.proofs.Ranges.{step-sound}
 use Rattle.rules.proofs.Bounds.{step-refusal-high, step-outcome-high}
 use Rattle.script.specs.Reading.{longest, isFramed, decoded, isWhole, recordAt}
 use Rattle.script.specs.declared.Record.{Record}
@@ -56,7 +57,7 @@ pub stop-line-short : (k : ℕ) (f : Facade) → k ≤ 99999 → Sound f → len
 stop-line-short k f h v = record-line-short k 3 0 (f .time) (f .waiting) h (omega arith) (omega arith) (omega (arith, few-wait f v))
 
 -- at the answer x to a step s
-pub answer-line-short : (k : ℕ) (f : Facade) (s : Step) (x : Answer) → k ≤ 99999 → Sound f → x ≡ step f s → length (answerLine k x) ≤ 26
+answer-line-short : (k : ℕ) (f : Facade) (s : Step) (x : Answer) → k ≤ 99999 → Sound f → x ≡ step f s → length (answerLine k x) ≤ 26
 answer-line-short k f s x h v e =
     let y = step f s in
     let few = few-wait (y .facade) (step-sound f s v) in
@@ -66,43 +67,34 @@ answer-line-short k f s x h v e =
 
 -- Room for the lines from record k at place p on, where k - 1 records before took two bytes or more each, from place 29 on.
 module _ (s : List ℕ) (short : length s ≤ longest) where
-  -- by the bytes that are left: 26 for each record, which takes two bytes or more of the script, for one at refusal 3, and 16 for the last line
-  pub lines-fit : (n : ℕ) (f : Facade) (p k : ℕ) → Sound f → 2 * k + 27 ≤ p → length (linesFrom n f s p k) ≤ 13 * (length s - p) + 42
+  -- by the bytes that are left: 26 for each record, which takes two bytes or more of the script, for one at refusal 3, and 16 for the last line;
+  -- and by the turns
+  lines-high : (n : ℕ) (f : Facade) (p k : ℕ) → Sound f → 2 * k + 27 ≤ p
+      → (length (linesFrom n f s p k) ≤ 13 * (length s - p) + 42) × (length (linesFrom n f s p k) ≤ 26 * n + 16)
   unfolding linesFrom
-  lines-fit zero f p k v h = omega arith
-  lines-fit (suc n) f p k v h =
+  lines-high zero f p k v h = (omega arith, omega arith)
+  lines-high (suc n) f p k v h =
       let held = held-line-short (heldClients f) in
       let r = recordAt s p in
       let x = step f (r .step) in
       let rest = linesFrom n (x .facade) s (r .next) (k + 1) in
-      let Fits : List ℕ → Type 0 = λ l. length l ≤ 13 * (length s - p) + 42 in
-      cond-case Fits (leb (length s) p) _ _ (λ t. omega arith)
+      let Fits : List ℕ → Type 0 = λ l. (length l ≤ 13 * (length s - p) + 42) × (length l ≤ 26 * suc n + 16) in
+      cond-case Fits (leb (length s) p) _ _ (λ t. (omega arith, omega arith))
       (λ u. let before = nleb→lt (length s) p u in
       cond-case Fits (eqb (r .refusal) 3) _ _
-      (λ t. simp length-append (omega (arith, stop-line-short k f (omega arith) v)))
+      (λ t. let line = stop-line-short k f (omega arith) v in
+      simp length-append (omega (arith, line), omega (arith, line)))
       (λ t. let on = moves-two s p (not-eqb _ _ t) in
       let both = length-append (answerLine k x) rest in
       let line = answer-line-short k f (r .step) x (omega arith) v refl in
-      omega (arith, line, lines-fit n (x .facade) (r .next) (k + 1) (step-sound f (r .step) v) (omega arith))))
+      let later = lines-high n (x .facade) (r .next) (k + 1) (step-sound f (r .step) v) (omega arith) in
+      (omega (arith, line, later .0), omega (arith, line, later .1))))
 
-  -- by the turns
+  pub lines-fit : (n : ℕ) (f : Facade) (p k : ℕ) → Sound f → 2 * k + 27 ≤ p → length (linesFrom n f s p k) ≤ 13 * (length s - p) + 42
+  lines-fit n f p k v h = lines-high n f p k v h .0
+
   pub lines-few : (n : ℕ) (f : Facade) (p k : ℕ) → Sound f → 2 * k + 27 ≤ p → length (linesFrom n f s p k) ≤ 26 * n + 16
-  unfolding linesFrom
-  lines-few zero f p k v h = omega arith
-  lines-few (suc n) f p k v h =
-      let held = held-line-short (heldClients f) in
-      let r = recordAt s p in
-      let x = step f (r .step) in
-      let rest = linesFrom n (x .facade) s (r .next) (k + 1) in
-      let Fits : List ℕ → Type 0 = λ l. length l ≤ 26 * suc n + 16 in
-      cond-case Fits (leb (length s) p) _ _ (λ t. omega arith)
-      (λ u. let before = nleb→lt (length s) p u in
-      cond-case Fits (eqb (r .refusal) 3) _ _
-      (λ t. simp length-append (omega (arith, stop-line-short k f (omega arith) v)))
-      (λ t. let on = moves-two s p (not-eqb _ _ t) in
-      let both = length-append (answerLine k x) rest in
-      let line = answer-line-short k f (r .step) x (omega arith) v refl in
-      omega (arith, line, lines-few n (x .facade) (r .next) (k + 1) (step-sound f (r .step) v) (omega arith))))
+  lines-few n f p k v h = lines-high n f p k v h .1
 
 -- One turn, where it is known which.
 module _ (n : ℕ) (f : Facade) (s : List ℕ) (p k : ℕ) where

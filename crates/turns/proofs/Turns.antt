@@ -13,9 +13,10 @@ use Rattle.types.specs.declared.Message.{Message}
 use Rattle.types.specs.declared.World.{World}
 use Rattle.types.specs.declared.Facade.{Facade}
 use Rattle.types.specs.declared.Answer.{Answer}
+use Rattle.rules.specs.Ranges.{Sound}
 use Rattle.rules.specs.Steps.{step, heldClients}
 use Rattle.rules.proofs.Laws.{cond-case, length-filled}
-use Rattle.rules.proofs.Ranges.{Sound, step-sound}
+use Rattle.rules.proofs.Ranges.{step-sound}
 use Rattle.world.specs.Apart.{worldOf, facadeOf, ended, holdsAfter}
 use Rattle.facade.specs.Held.{heldAmong}
 use Rattle.script.specs.Reading.{longest, recordAt}
@@ -54,6 +55,10 @@ as-many-clients t w ys = cond-case (λ (zs : List Client). length zs ≡ length 
 pub parts-equal : (w : World) (ss : List Server) {ys zs : List Client} {ms ns : List Message} → ys ≡ zs → ms ≡ ns → facadeOf w ss zs ns ≡ facadeOf w ss ys ms
 parts-equal w ss a b = rw (a, b)
 
+-- a run is under way whether it has ended or not
+pub whether-ended : (s : List ℕ) (r : Progress) (ended : Bool) → UnderWay s r → UnderWay s (before (r .facade) (r .place) (r .number) ended)
+whether-ended s r ended u = record { sound = u .sound; servers = u .servers; clients = u .clients; counted = u .counted; placed = u .placed; short = u .short }
+
 -- The turns of a run of script s are under way, with record k at place p next and so many left: with the lines that are owed at place j of the
 -- buffer, which is now m, all of v is put into l at place i, and the run behind them is z.
 pub record Going (s l v : List ℕ) (i : ℕ) (z : Progress) (m : List ℕ) (w : World) (ss : List Server) (ys : List Client) (ms : List Message) (j p k left : ℕ) : Type 0 where
@@ -79,14 +84,14 @@ module _ {s l v m : List ℕ} {i j p k left : ℕ} {z : Progress} {w : World} {s
   fits = omega (arith, g .same, g .room)
 
   stands : (ended : Bool) → UnderWay s (before (facadeOf w ss ys ms) p k ended)
-  stands ended = record { sound = g .way .sound; servers = g .way .servers; clients = g .way .clients; counted = g .way .counted; placed = g .way .placed; short = g .way .short }
+  stands ended = whether-ended s (before (facadeOf w ss ys ms) p k false) ended (g .way)
 
   -- no turn is left
   pub none-left : left ≡ 0 → (x : Piece) → x ≡ piece (facadeOf w ss ys ms) p k false j → Over s l v i z m x
   unfolding linesFrom progressFrom
   none-left u x d = rw d (record { run = sym (rw u at (g .run)); way = stands false; put = owed-none l v m [] i j j (rw u at (g .owed)) (put-none m j) })
 
-  -- one is left
+  -- at least one is left
   module _ (n : ℕ) (u : left ≡ suc n) where
     owes : Owed l i v m j (linesFrom (suc n) (facadeOf w ss ys ms) s p k)
     owes = rw u at (g .owed)

@@ -9,7 +9,7 @@ use lib.ListN.{length}
 use Rattle.types.specs.declared.Facade.{Facade}
 use Rattle.types.specs.declared.Answer.{Answer}
 use Rattle.rules.specs.Steps.{step, heldClients}
-use Rattle.rules.proofs.Ranges.{Sound}
+use Rattle.rules.specs.Ranges.{Sound}
 use Rattle.script.specs.Reading.{longest, recordAt}
 use Rattle.turns.specs.declared.Progress.{Progress}
 use Rattle.report.specs.Lines.{recordLine, heldLine}

@@ -9,8 +9,7 @@ use types::Config;
 use types::Facade;
 use types::Step;
 ghost use mathlib.Core.Path.{_≡_};
-ghost use Prim.Native.Nat.{_+_, _*_, _≤_};
-ghost use lib.ListN.{length, getD};
+ghost use Prim.Native.Nat.{_+_, _*_};
 ghost use Rattle.rules.specs.Steps.{step as stepOf};
 
 // A step in four numbers: kind and fields.

@@ -1,17 +1,16 @@
 use mathlib.Core.Path.{_≡_, refl}
-use Prim.Native.Nat.{_+_, _*_, _-_, _≤_}
+use Prim.Native.Nat.{_-_, _≤_}
 use native.Mathlib.Omega.{arith}
-use lib.Dec.{eqb, leb}
-use lib.ListN.{getD}
 use borrow.Author.Needs.{needs}
-use Rattle.rules.specs.Conditions.{_or_, all}
+use Rattle.rules.specs.Conditions.{all}
+use Rattle.rules.specs.Steps.{hasHeard}
 use Rattle.rules.proofs.Laws.{all-more, all-done}
 use Rattle.clocks.proofs.is_heard_by.Statement.{statement}
 use Rattle.clocks.proofs.is_heard_by.Tie as tie
 
 abbrev Inv-loop : tie.InvT-loop
 Inv-loop c ts now k count ok₀ j₀ ok j =
-    (j ≤ count) × (count ≤ 4) × (ok ≡ all (λ i. eqb i k or leb now (getD ts (k * 4 + i) 0 + c .silence)) j)
+    (j ≤ count) × (count ≤ 4) × (ok ≡ all (hasHeard c ts now k) j)
 
 abbrev μ-loop : tie.MeasureT-loop
 μ-loop c ts now k count ok₀ j₀ ok j = count - j

@@ -1,11 +1,11 @@
 use mathlib.Core.Path.{_≡_, refl, _∙_}
-use mathlib.Core.Bool.{false, not}
-use Prim.Native.Nat.{_+_, _*_, _-_, _≤_}
+use mathlib.Core.Bool.{false}
+use Prim.Native.Nat.{_-_, _≤_}
 use native.Mathlib.Omega.{arith}
-use lib.Dec.{eqb, leb}
 use lib.ListN.{getD}
 use borrow.Author.Needs.{needs}
-use Rattle.rules.specs.Conditions.{_or_, all}
+use Rattle.rules.specs.Conditions.{all}
+use Rattle.rules.specs.Steps.{isInTouch}
 use Rattle.rules.proofs.Laws.{all-more, all-done}
 use Rattle.clocks.proofs.is_in_touch.Statement.{statement}
 use Rattle.clocks.proofs.is_in_touch.Tie as tie
@@ -13,7 +13,7 @@ use Rattle.clocks.proofs.is_in_touch.Tie as tie
 abbrev Inv-loop : tie.InvT-loop
 Inv-loop c ts now alive count ok₀ k₀ ok k =
     (k ≤ count) × (count ≤ 4)
-    × (ok ≡ all (λ i. not (getD alive i false) or all (λ j. eqb j i or leb now (getD ts (i * 4 + j) 0 + c .silence)) (c .servers)) k)
+    × (ok ≡ all (λ i. isInTouch c ts now i (getD alive i false)) k)
 
 abbrev μ-loop : tie.MeasureT-loop
 μ-loop c ts now alive count ok₀ k₀ ok k = count - k

@@ -1,6 +1,7 @@
--- The invariant: what is put so far with the lines still owed is all the lines, and so for the run behind them. That of the inner
--- loop is cable's.
+-- The invariant: the facade is in range, what is put so far with the lines still owed is all the lines, and so for the run behind
+-- them. That of the inner loop is cable's.
 use mathlib.Core.Path.{refl, sym, ap, _∙_}
+use mathlib.Core.Bool.{false}
 use mathlib.Core.Logic.{⊎-elim}
 use Prim.Native.Nat.{_-_}
 use native.Mathlib.Omega.{arith}
@@ -15,7 +16,7 @@ use Rattle.answers.proofs.Laws.{sizes, time-high, waiting-high}
 use Rattle.facade.proofs.Laws.{message-ready, left-out, put-in, put-in-sound}
 use Rattle.turns.specs.Turns.{linesFrom, progressFrom}
 use Rattle.turns.proofs.Lines.{stop-line-short}
-use Rattle.turns.proofs.Turns.{ended-by, stays-by, as-many-clients, parts-equal, Going, none-left, last-put, stop-put, goes-round, done}
+use Rattle.turns.proofs.Turns.{ended-by, stays-by, as-many-clients, parts-equal, whether-ended, Going, none-left, last-put, stop-put, goes-round, done}
 use Rattle.turns.proofs.put_turns.Statement.{statement}
 use Rattle.turns.proofs.put_turns.Tie as tie
 
@@ -39,16 +40,8 @@ world-of-requires c κs = tt
 
 loop-holds : tie.Need-loop-holds Inv-loop2 μ-loop2 Inv-loop μ-loop
 loop-holds c =
-    let w = c .before .before .before .world-of in
-    let pre = c .before .before .before .before .before .before .before .pre in
-    rw (w .ensures)
-    (record {
-      way = record { sound = pre .0 .sound; servers = pre .0 .servers; clients = pre .0 .clients; counted = pre .0 .counted; placed = pre .0 .placed; short = pre .0 .short };
-      same = refl;
-      owed = (refl, refl);
-      run = refl;
-      room = pre .1;
-    })
+    let entry = c .before .before .before .before .before .before .before in
+    rw (c .before .before .before .world-of .ensures) (record { way = whether-ended _ (entry .args .r) false (entry .pre .0); same = refl; owed = (refl, refl); run = refl; room = entry .pre .1 })
 
 held-among-requires : tie.Need-held-among-requires Inv-loop2 μ-loop2 Inv-loop μ-loop
 held-among-requires c κs = tt
