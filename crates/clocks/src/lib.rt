@@ -13,10 +13,9 @@ ghost use mathlib.Core.Bool.{false};
 ghost use Prim.Native.Nat.{_+_, _*_, _≤_, _<_};
 ghost use lib.IntN.{pos, natAbs, _+ℤ_};
 ghost use lib.ListN.{getD, set};
-ghost use Rattle.types.specs.declared.Server.{Server};
 ghost use Rattle.rules.specs.Conditions.{all};
 ghost use Rattle.rules.specs.Clock.{plus};
-ghost use Rattle.rules.specs.Steps.{offsetAllows, hasHeard, isInTouch, isSoOf, rowNow};
+ghost use Rattle.rules.specs.Steps.{offsetAllows, hasHeard, isInTouch, isSo, rowNow};
 ghost use Rattle.rules.proofs.Kept.{Configured};
 ghost use Rattle.world.specs.Apart.{timeIn, ended, holdsAfter};
 
@@ -126,7 +125,7 @@ pub fn holds_after(t: u32, w: World, ys: [Client; 32]) -> [Client; 32]
 
 // Refusal 11: what a notice says of a server, alive or not since `changed`, is so at true time t, or was until less than ν ago.
 pub fn is_credible_notice(c: Config, t: u32, alive: bool, changed: u32, says: u32) -> bool
-    ensures { λ r. ⌜ ((s : Server) → s .alive ≡ alive → s .changed ≡ changed → r ≡ isSoOf c t s says) ⌝ }
+    ensures { λ r. ⌜ r ≡ isSo c t alive changed says ⌝ }
 {
     let until = (changed as u64) + (c.silence as u64);
     let recent = (t as u64) < until;

@@ -19,7 +19,7 @@ use Rattle.rules.specs.Parts.{noServer, serverAt, offsetAt, clock, withNotices,
 use Rattle.rules.specs.Messages.{without}
 use Rattle.rules.specs.Ranges.{inRange}
 use Rattle.rules.specs.Server.{noticed, afterReturn, cleaned}
-use Rattle.rules.specs.Steps.{pass, fail, return, notice, lose, cleanup, unknown, isKnown, fieldsInRange, exists, stateAllows, ofPass, timeLeft, offsetAllows, clockAllows, isInTouch, inTouch, ofNotice, isSoOf, isCredible, interactionLeft, accepted, refused, serverActs, moved, lapse, effect, action, answerTo, rowNow}
+use Rattle.rules.specs.Steps.{pass, fail, return, notice, lose, cleanup, unknown, isKnown, fieldsInRange, exists, stateAllows, ofPass, timeLeft, offsetAllows, clockAllows, isInTouch, inTouch, ofNotice, isSo, isCredible, interactionLeft, accepted, refused, serverActs, moved, lapse, effect, action, answerTo, rowNow}
 use Rattle.rules.proofs.Laws.{true-of, and-l, and-r, within-low, within-high}
 use Rattle.rules.proofs.Actions.{action-pass, action-notice}
 use Rattle.rules.proofs.Refusals.{refused-4, refused-5, refused-6, refused-7, refused-8, refused-9, refused-10, refused-11, unless-full}
@@ -220,10 +220,12 @@ lives-changed = each-of-four (λ (s : Server). s .changed) 0
 
 -- refusal 11, by the lives
 pub credible-by : (f : Facade) (l : Lives) → livesOf (f .servers) ≡ l → (j says : ℕ) → j < 4 → (r : Bool)
-    → ((s : Server) → s .alive ≡ getD (l .alive) j false → s .changed ≡ getD (l .changed) j 0 → r ≡ isSoOf (f .config) (f .time) s says)
-    → r ≡ isCredible f j says
+    → r ≡ isSo (f .config) (f .time) (getD (l .alive) j false) (getD (l .changed) j 0) says → r ≡ isCredible f j says
 unfolding isCredible
-credible-by f l e j says h r q = q (serverAt f j) (rw (← e) (lives-alive (f .servers) j h)) (rw (← e) (lives-changed (f .servers) j h))
+credible-by f l e j says h r q =
+    let alive : (serverAt f j) .alive ≡ getD (l .alive) j false = rw (← e) (lives-alive (f .servers) j h) in
+    let changed : (serverAt f j) .changed ≡ getD (l .changed) j 0 = rw (← e) (lives-changed (f .servers) j h) in
+    rw (alive, changed) q
 
 -- tests that agree below n
 all-same : (p q : ℕ → Bool) (n : ℕ) → ((i : ℕ) → i < n → p i ≡ q i) → all p n ≡ all q n

@@ -166,12 +166,13 @@ isInTouch c ts t k alive = not alive or all (hasHeard c ts t k) (c .servers)
 unfoldable pub inTouch : Facade → ℕ → ℕ → ℤ → Bool
 inTouch f d p e = all (λ k. isInTouch (f .config) (f .notices) (f .time + d) k ((serverAt f k) .alive)) (f .config .servers)
 
--- Refusal 11. "A dead notice about a server alive for ν or more since c, or an alive notice about one dead for ν or more." The server is s, true time t.
-abbrev pub isSoOf : Config → ℕ → Server → ℕ → Bool
-isSoOf c t s says = cond (eqb says 1) (s .alive) (not (s .alive)) or ltb t (s .changed + c .silence)
+-- Refusal 11. "A dead notice about a server alive for ν or more since c, or an alive notice about one dead for ν or more." True
+-- time is t, and the server is alive or not since `changed`.
+abbrev pub isSo : Config → ℕ → Bool → ℕ → ℕ → Bool
+isSo c t alive changed says = cond (eqb says 1) alive (not alive) or ltb t (changed + c .silence)
 
 unfoldable pub isCredible : Facade → ℕ → ℕ → Bool
-isCredible f j says = isSoOf (f .config) (f .time) (serverAt f j) says
+isCredible f j says = isSo (f .config) (f .time) ((serverAt f j) .alive) ((serverAt f j) .changed) says
 
 -- a test of a notice alone
 unfoldable pub ofNotice : (ℕ → ℕ → Bool) → Action → Bool

@@ -13,13 +13,13 @@ either-requires : tie.Need-either-requires
 either-requires c κs = search needs
 
 returns : tie.Need-returns
-returns c = λ s alive changed. rw (c .before .if1 .taken, alive, changed) (c .either .ensures)
+returns c = rw (c .before .if1 .taken) (c .either .ensures)
 
 either-requires-2 : tie.Need-either-requires-2
 either-requires-2 c κs = search needs
 
 returns-2 : tie.Need-returns-2
-returns-2 c = λ s alive changed. rw (ne-eqb _ 1 (c .before .if1 .left), alive, changed) (c .either2 .ensures)
+returns-2 c = rw (ne-eqb _ 1 (c .before .if1 .left)) (c .either2 .ensures)
 
 pub is-credible-notice-spec : {M : Type 1} → statement M
 is-credible-notice-spec =
