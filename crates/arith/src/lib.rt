@@ -1,10 +1,9 @@
-// Leaves on tests and numbers, each proved once: bounds, offsets, clocks and ranks.
+// Leaves on tests and numbers, each proved once: refusals, bounds, offsets and clocks.
 ghost use mathlib.Core.Path.{_≡_};
 ghost use Prim.Native.Nat.{_≤_, _<_, max};
 ghost use lib.IntN.{natAbs, _+ℤ_};
-ghost use Rattle.rules.specs.Conditions.{_and_, _or_, within};
+ghost use Rattle.rules.specs.Conditions.{_and_, _or_, within, unless as unlessOk};
 ghost use Rattle.rules.specs.Clock.{plus, notNegative, signed};
-ghost use Rattle.rules.specs.Order.{rank};
 
 // Both tests, in the order of the rules.
 pub fn both(x: bool, y: bool) -> bool
@@ -18,6 +17,13 @@ pub fn either(x: bool, y: bool) -> bool
     ensures { λ r. ⌜ r ≡ (x or y) ⌝ }
 {
     if x { true } else { y }
+}
+
+// The number of a refusal where its test fails, and else what the refusals below it give.
+pub fn unless(ok: bool, n: u32, below: u32) -> u32
+    ensures { λ r. ⌜ r ≡ unlessOk ok n below ⌝ }
+{
+    if ok { below } else { n }
 }
 
 // The larger of two numbers.
@@ -84,12 +90,4 @@ pub fn as_signed(x: u32) -> i32
     } else {
         -1 - ((4294967295 - x) as i32)
     }
-}
-
-// The rank of server j, of n, in the order of address a.
-pub fn rank_of(n: u32, a: u32, j: u32) -> u32
-    requires { ⌜ (1 ≤ n) × (n ≤ 4) × (j < 4) ⌝ }
-    ensures { λ r. ⌜ r ≡ rank n a j ⌝ }
-{
-    (j + (n - a % n)) % n
 }

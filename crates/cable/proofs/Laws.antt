@@ -1,4 +1,4 @@
--- Laws of the loop that exchanges the waiting messages, wherever it stands.
+-- Laws of the two loops that exchange the waiting messages, wherever they stand: messages move up, then others are put behind the rest.
 use mathlib.Core.Path.{_≡_, refl, sym, ap, _∙_}
 use mathlib.Core.Logic.{_≢_}
 use mathlib.Core.Bool.{Bool, true, false, cond}
@@ -6,7 +6,7 @@ use mathlib.Core.List.{List, _∷_, _++_}
 use Prim.Native.Nat.{ℕ, zero, suc, _+_, _-_, _≤_, _<_}
 use native.Mathlib.Omega.{arith}
 use native.Mathlib.Decide.{ℕ-discrete, decLt}
-use lib.Dec.{T, ltb, ltb→lt, nltb→le}
+use lib.Dec.{T}
 use lib.ListN.{length, getD, set, take, drop, length-set, length-append, length-take, length-drop}
 use lib.Seq.{getD-set-same, getD-set-other, getD-drop, getD-append-add, getD-at, ext-getD}
 use borrow.Author.Tests.{lt-ltb, le-ltb}
@@ -15,19 +15,21 @@ use Rattle.types.specs.declared.Outbox.{Outbox}
 use Rattle.rules.specs.Parts.{noMessage}
 use Rattle.rules.specs.Messages.{sentBehind, removed}
 use Rattle.rules.proofs.Cable.{length-sent, length-removed, removed-case}
-use Rattle.rules.proofs.Laws.{cond-case}
-use Rattle.world.specs.Apart.{restOf, exchanged}
-use Rattle.cable.specs.Places.{firstOf, endOf, placeAbove, messageSent, messageAfter}
+use Rattle.cable.specs.Exchange.{restOf, exchanged}
+use Rattle.cable.specs.Places.{firstOf, endOf, messageSent}
 
--- what place i holds afterwards, by what it is: one whose message moves up, or one behind the rest
-module _ (above : Message) (o : Outbox) (rest i : ℕ) where
-  pub after-moved : i < rest → messageAfter above o rest i ≡ above
-  unfolding messageAfter
-  after-moved h = rw (lt-ltb i rest h)
+-- what is put behind the rest: what the outbox holds, then no message
+abbrev pub sentAt : Outbox → ℕ → Message
+sentAt o k = messageSent (getD (o .messages) k noMessage) k (o .count)
 
-  pub after-sent : rest ≤ i → messageAfter above o rest i ≡ messageSent o (i - rest)
-  unfolding messageAfter
-  after-sent h = rw (le-ltb i rest h)
+module _ (o : Outbox) (k : ℕ) where
+  sent-here : k < o .count → sentAt o k ≡ getD (o .messages) k noMessage
+  unfolding messageSent
+  sent-here h = rw (lt-ltb k (o .count) h)
+
+  pub sent-past : o .count ≤ k → sentAt o k ≡ noMessage
+  unfolding messageSent
+  sent-past h = rw (le-ltb k (o .count) h)
 
 -- What is sent behind w messages, at each place.
 module _ (ms : List Message) (w : ℕ) (o : Outbox) where
@@ -69,6 +71,16 @@ module _ (ms : List Message) (p n : ℕ) (h : p < n) (l : n ≤ length ms) where
       ∙ getD-append-add front (noMessage ∷ drop n ms) (suc (j - n)) noMessage
       ∙ getD-drop n ms (j - n) noMessage
       ∙ ap (λ (k : ℕ). getD ms k noMessage) back
+
+-- no more stay than wait
+pub rest-high : (n : ℕ) (taken : Bool) → restOf n taken ≤ n
+rest-high n true = omega arith
+rest-high n false = omega arith
+
+-- and at most one less
+pub rest-low : (n : ℕ) (taken : Bool) → n ≤ restOf n taken + 1
+rest-low n true = omega arith
+rest-low n false = omega arith
 
 -- The places that change.
 module _ (p n : ℕ) where
@@ -124,85 +136,113 @@ module _ (ms : List Message) (p n : ℕ) (taken : Bool) (o : Outbox) (l : n ≤ 
       sent-other (stays ms p n taken) (restOf n taken) o (o .count) j (λ x k e. omega arith)
       ∙ stays-behind ms p n l taken h j b
 
-  -- where the message above it counts only while any moves up
-  exchanged-between : (above : Message) (j : ℕ) → j < length ms → firstOf p n taken ≤ j → j < endOf n (restOf n taken) (o .count)
-      → (j < restOf n taken → above ≡ getD ms (suc j) noMessage)
-      → getD (exchanged ms p n taken o) j noMessage ≡ messageAfter above o (restOf n taken) j
-  unfolding messageSent messageAfter
-  exchanged-between above j b low high up =
-      let P : Message → Type 0 = λ (x : Message). getD (exchanged ms p n taken o) j noMessage ≡ x in
-      cond-case P (ltb j (restOf n taken)) _ _
-      (λ t. let moves : j < restOf n taken = ltb→lt _ _ t in
+  exchanged-moved : (j : ℕ) → firstOf p n taken ≤ j → j < restOf n taken → getD (exchanged ms p n taken o) j noMessage ≡ getD ms (suc j) noMessage
+  exchanged-moved j low high =
       sent-other (stays ms p n taken) (restOf n taken) o (o .count) j (λ x k e. omega arith)
-      ∙ stays-moved ms p n l taken h j low moves
-      ∙ sym (up moves))
-      (λ t. let rest : restOf n taken ≤ j = nltb→le _ _ t in
-      cond-case P (ltb (j - restOf n taken) (o .count)) _ _
-      (λ u. let sent : j - restOf n taken < o .count = ltb→lt _ _ u in
-      sent-at (stays ms p n taken) (restOf n taken) o (o .count) j (omega (arith, length-stays ms p n l taken h)) rest (omega arith))
-      (λ u. let unsent : o .count ≤ j - restOf n taken = nltb→le _ _ u in
-      sent-other (stays ms p n taken) (restOf n taken) o (o .count) j (λ x k e. omega arith)
-      ∙ stays-last ms p n l taken h j rest (omega arith)))
+      ∙ stays-moved ms p n l taken h j low high
 
--- The loop with place i next: those before it are as after the exchange, the others as before it.
-pub record Moving (ms : List Message) (p n : ℕ) (taken : Bool) (o : Outbox) (i : ℕ) (out : List Message) : Type 0 where
+  exchanged-sent : (j : ℕ) → j < length ms → restOf n taken ≤ j → j < endOf n (restOf n taken) (o .count)
+      → getD (exchanged ms p n taken o) j noMessage ≡ sentAt o (j - restOf n taken)
+  exchanged-sent j b low high = by (decLt (j - restOf n taken) (o .count))
+    where
+      by : Dec (j - restOf n taken < o .count) → getD (exchanged ms p n taken o) j noMessage ≡ sentAt o (j - restOf n taken)
+      by (yes y) =
+          sent-at (stays ms p n taken) (restOf n taken) o (o .count) j (omega (arith, length-stays ms p n l taken h)) low (omega arith)
+          ∙ sym (sent-here o (j - restOf n taken) y)
+      by (no ny) =
+          sent-other (stays ms p n taken) (restOf n taken) o (o .count) j (λ x k e. omega arith)
+          ∙ stays-last ms p n l taken h j low (omega arith)
+          ∙ sym (sent-past o (j - restOf n taken) (omega arith))
+
+-- The loops with place i next: those before it are as after the exchange, the others as before it.
+pub record Moving (ms : List Message) (p n : ℕ) (taken : Bool) (o : Outbox) (rest last i : ℕ) (out : List Message) : Type 0 where
   pub whole : length ms ≡ 128
   pub fits : n ≤ 128
   pub there : T taken → p < n
+  pub stay : rest ≡ restOf n taken
+  pub end : last ≡ endOf n rest (o .count)
   pub size : length out ≡ 128
   pub low : firstOf p n taken ≤ i
   pub done : (j : ℕ) → j < i → getD out j noMessage ≡ getD (exchanged ms p n taken o) j noMessage
   pub left : (j : ℕ) → i ≤ j → getD out j noMessage ≡ getD ms j noMessage
 
--- it begins with the first place that changes
-pub moving-start : (ms : List Message) (p n : ℕ) (taken : Bool) (o : Outbox) (i : ℕ)
-    → length ms ≡ 128 → n ≤ 128 → (T taken → p < n) → i ≡ firstOf p n taken → Moving ms p n taken o i ms
-moving-start ms p n taken o i whole fits there e = record {
+-- they begin with the first place that changes
+pub moving-start : {ms : List Message} {p n : ℕ} {taken : Bool} {o : Outbox} {rest last i : ℕ}
+    → length ms ≡ 128 → n ≤ 128 → (T taken → p < n) → rest ≡ restOf n taken → last ≡ endOf n rest (o .count) → i ≡ firstOf p n taken
+    → Moving ms p n taken o rest last i ms
+moving-start {ms} {p} {n} {taken} {o} whole fits there stay end e = record {
   whole = whole;
   fits = fits;
   there = there;
+  stay = stay;
+  end = end;
   size = whole;
   low = omega arith;
   done = λ j h. sym (exchanged-below ms p n taken o (omega arith) there j (omega arith));
   left = λ j h. refl;
 }
 
-module _ {ms : List Message} {p n : ℕ} {taken : Bool} {o : Outbox} {i : ℕ} {out : List Message} (m : Moving ms p n taken o i out) where
+module _ {ms : List Message} {p n : ℕ} {taken : Bool} {o : Outbox} {rest last i : ℕ} {out : List Message} (m : Moving ms p n taken o rest last i out) where
+  inside : n ≤ length ms
+  inside = omega (arith, m .fits, m .whole)
+
   done-go : (v : Message) → i < 128 → v ≡ getD (exchanged ms p n taken o) i noMessage → (j : ℕ) → j < i + 1 → Dec (j ≡ i)
       → getD (set out i v) j noMessage ≡ getD (exchanged ms p n taken o) j noMessage
   done-go v b e j h (yes here) = rw here (getD-set-same out i v noMessage (omega (arith, m .size)) ∙ e)
   done-go v b e j h (no ne) = getD-set-other out i j v noMessage ne ∙ m .done j (omega arith)
 
-  -- one place more, as the loop writes it
-  pub moving-more : {rest up : ℕ} {v : Message} → rest ≡ restOf n taken → i < endOf n rest (o .count) → up ≡ placeAbove i
-      → v ≡ messageAfter (getD out up noMessage) o rest i → Moving ms p n taken o (i + 1) (set out i v)
-  moving-more {rest} {up} {v} r b u e =
-      let l : n ≤ length ms = omega (arith, m .fits, m .whole) in
-      let near : i < restOf n taken → getD out up noMessage ≡ getD ms (suc i) noMessage = λ q.
-      let next : up ≡ suc i = omega (arith, above-low p n taken i (m .low) q, m .fits) in
-      rw next (m .left (suc i) (omega arith)) in
-      let after : getD (exchanged ms p n taken o) i noMessage ≡ messageAfter (getD out up noMessage) o (restOf n taken) i =
-      exchanged-between ms p n taken o l (m .there) (getD out up noMessage) i (omega (arith, m .whole)) (m .low) (omega arith) near in
-      let same : v ≡ getD (exchanged ms p n taken o) i noMessage = (rw (← r) e) ∙ sym after in
-      record {
-        whole = m .whole;
-        fits = m .fits;
-        there = m .there;
-        size = length-set out i v ∙ m .size;
-        low = omega (arith, m .low);
-        done = λ j h. done-go v (omega arith) same j h (ℕ-discrete j i);
-        left = λ j h. getD-set-other out i j v noMessage (λ q. omega arith) ∙ m .left j (omega arith);
-      }
+  moving-more : (v : Message) → i < 128 → v ≡ getD (exchanged ms p n taken o) i noMessage → Moving ms p n taken o rest last (i + 1) (set out i v)
+  moving-more v b e = record {
+    whole = m .whole;
+    fits = m .fits;
+    there = m .there;
+    stay = m .stay;
+    end = m .end;
+    size = length-set out i v ∙ m .size;
+    low = omega (arith, m .low);
+    done = λ j h. done-go v b e j h (ℕ-discrete j i);
+    left = λ j h. getD-set-other out i j v noMessage (λ q. omega arith) ∙ m .left j (omega arith);
+  }
+
+  -- where a message moves up, there is a place above
+  pub moving-high : i < rest → i + 1 < 128
+  moving-high b = omega (arith, above-low p n taken i (m .low) (omega (arith, m .stay)), m .fits)
+
+  -- one message more moves up
+  pub moving-up : i < rest → Moving ms p n taken o rest last (i + 1) (set out i (getD out (i + 1) noMessage))
+  moving-up b =
+      let next : i + 1 ≡ suc i = omega arith in
+      moving-more (getD out (i + 1) noMessage) (omega (arith, moving-high b))
+      (m .left (i + 1) (omega arith) ∙ ap (λ (k : ℕ). getD ms k noMessage) next ∙ sym (exchanged-moved ms p n taken o inside (m .there) i (m .low) (omega (arith, m .stay))))
+
+  -- one message more is put behind the rest, or the place is emptied
+  pub moving-sent : {v : Message} → rest ≤ i → i < last → v ≡ sentAt o (i - rest) → Moving ms p n taken o rest last (i + 1) (set out i v)
+  moving-sent {v} r b e =
+      moving-more v (omega (arith, m .end))
+      (e ∙ ap (λ (k : ℕ). sentAt o (i - k)) (m .stay) ∙ sym (exchanged-sent ms p n taken o inside (m .there) i (omega (arith, m .end, m .whole)) (omega (arith, m .stay)) (omega (arith, m .stay, m .end))))
 
   -- with no place left that changes, all are as after the exchange
-  pub moving-done : {rest : ℕ} → rest ≡ restOf n taken → endOf n rest (o .count) ≤ i → out ≡ exchanged ms p n taken o
-  moving-done {rest} r b =
-      ext-getD noMessage out (exchanged ms p n taken o) (m .size ∙ sym (length-exchanged ms p n taken o l (m .there) ∙ m .whole))
+  pub moving-done : last ≤ i → out ≡ exchanged ms p n taken o
+  moving-done b =
+      ext-getD noMessage out (exchanged ms p n taken o) (m .size ∙ sym (length-exchanged ms p n taken o inside (m .there) ∙ m .whole))
       (λ j h. by j (omega (arith, m .size)) (decLt j i))
     where
-      l : n ≤ length ms
-      l = omega (arith, m .fits, m .whole)
-
       by : (j : ℕ) → j < 128 → Dec (j < i) → getD out j noMessage ≡ getD (exchanged ms p n taken o) j noMessage
       by j h (yes y) = m .done j y
-      by j h (no ny) = m .left j (omega arith) ∙ sym (exchanged-behind ms p n taken o l (m .there) j (omega arith) (omega arith))
+      by j h (no ny) =
+          m .left j (omega arith)
+          ∙ sym (exchanged-behind ms p n taken o inside (m .there) j (omega (arith, m .end)) (omega (arith, m .stay, m .end)))
+
+-- The second loop, from place i₀ of out₀ on. Where both stand in one function its invariant can name what the first one left, and no longer
+-- the messages from before: of whichever ms the first held so far, the second does.
+pub record Sending (p n : ℕ) (taken : Bool) (o : Outbox) (rest last i₀ : ℕ) (out₀ : List Message) (i : ℕ) (out : List Message) : Type 0 where
+  pub behind : rest ≤ i
+  pub on : {ms : List Message} → Moving ms p n taken o rest last i₀ out₀ → Moving ms p n taken o rest last i out
+
+module _ {p n : ℕ} {taken : Bool} {o : Outbox} {rest last i₀ : ℕ} {out₀ : List Message} where
+  pub sending-start : rest ≤ i₀ → Sending p n taken o rest last i₀ out₀ i₀ out₀
+  sending-start h = record { behind = h; on = λ m. m }
+
+  pub sending-more : {i : ℕ} {out : List Message} {v : Message} → Sending p n taken o rest last i₀ out₀ i out → i < last → v ≡ sentAt o (i - rest)
+      → Sending p n taken o rest last i₀ out₀ (i + 1) (set out i v)
+  sending-more s h e = record { behind = omega (arith, s .behind); on = λ m. moving-sent (s .on m) (s .behind) h e }

@@ -1,22 +1,28 @@
 // The waiting messages, in the order sent: one is taken out, and what a step sends waits behind the rest.
-// A caller that keeps the messages in a local writes the loop of `exchange` there, as handing them over copies them.
+// A caller that keeps the messages in a local writes the loops of `remove` and `send` there, as handing the messages over
+// copies them: from `first_of` on up to `rest_of` a place gets the message above it, then up to `end_of` a `message_sent`.
 use types::Message;
 use types::Outbox;
-use world::rest_of;
 ghost use mathlib.Core.Path.{_≡_};
 ghost use Prim.Native.Nat.{_≤_, _<_};
 ghost use lib.Dec.{T};
-ghost use Rattle.world.specs.Apart.{exchanged};
-ghost use Rattle.cable.specs.Places.{firstOf, endOf, placeAbove, messageSent};
+ghost use Rattle.rules.specs.Messages.{removed, sentBehind};
+ghost use Rattle.cable.specs.Exchange.{restOf, exchanged};
+ghost use Rattle.cable.specs.Places.{firstOf, endOf, messageSent};
+
+// How many of n waiting messages stay, where one is taken out if `taken`.
+pub fn rest_of(n: u32, taken: bool) -> u32
+    requires { ⌜ (T taken → 1 ≤ n) ⌝ }
+    ensures { λ r. ⌜ r ≡ restOf n taken ⌝ }
+{
+    if taken { n - 1 } else { n }
+}
 
 // The first place that changes: that of the message at p, if it is taken out, or that behind the n that wait.
 pub fn first_of(p: u32, n: u32, taken: bool) -> u32
     ensures { λ r. ⌜ r ≡ firstOf p n taken ⌝ }
 {
-    if taken {
-        return p;
-    }
-    n
+    if taken { p } else { n }
 }
 
 // The place behind the last one that changes, where n messages waited, `rest` of them stay and `count` are sent.
@@ -35,26 +41,53 @@ pub fn end_of(n: u32, rest: u32, count: u32) -> u32
     128
 }
 
-// The place above i, or the last place.
-pub fn place_above(i: u32) -> usize
-    ensures { λ r. ⌜ r ≡ placeAbove i ⌝ }
+// What the k-th place behind the rest holds: m, the message at k of an outbox of so many, or no message.
+pub fn message_sent(m: Message, k: u32, count: u32) -> Message
+    ensures { λ r. ⌜ r ≡ messageSent m k count ⌝ }
 {
-    if i < 127 {
-        return (i + 1) as usize;
-    }
-    127
-}
-
-// The message at place k of an outbox, or no message.
-pub fn message_sent(o: Outbox, k: u32) -> Message
-    requires { ⌜ o .count ≤ 4 ⌝ }
-    ensures { λ r. ⌜ r ≡ messageSent o k ⌝ }
-{
-    if k < o.count {
-        let at = k as usize;
-        return o.messages[at];
+    if k < count {
+        return m;
     }
     outbox::empty()
+}
+
+// Of n waiting messages that at p is taken out: those behind it move up, and the last place is emptied.
+fn remove(ms: [Message; 128], p: u32, n: u32) -> [Message; 128]
+    requires { ⌜ (p < n) × (n ≤ 128) ⌝ }
+    ensures { λ r. ⌜ r ≡ removed ms p n ⌝ }
+{
+    let rest = n - 1;
+    let mut out = ms;
+    let mut i = p;
+    while i < rest {
+        let up = (i + 1) as usize;
+        let above = out[up];
+        let at = i as usize;
+        out[at] = above;
+        i += 1;
+    }
+    let none = outbox::empty();
+    let gap = i as usize;
+    out[gap] = none;
+    out
+}
+
+// What o holds waits behind the w messages that wait.
+fn send(ms: [Message; 128], w: u32, o: Outbox) -> [Message; 128]
+    requires { ⌜ (w ≤ 128) × (o .count ≤ 4) ⌝ }
+    ensures { λ r. ⌜ r ≡ sentBehind ms w o (o .count) ⌝ }
+{
+    let last = end_of(w, w, o.count);
+    let mut out = ms;
+    let mut i = w;
+    while i < last {
+        let k = (i - w) as usize;
+        let m = o.messages[k];
+        let at = i as usize;
+        out[at] = message_sent(m, i - w, o.count);
+        i += 1;
+    }
+    out
 }
 
 // Of n waiting messages that at p is taken out if `taken`, and what o holds waits behind the rest.
@@ -62,22 +95,9 @@ pub fn exchange(ms: [Message; 128], p: u32, n: u32, taken: bool, o: Outbox) -> [
     requires { ⌜ (n ≤ 128) × (o .count ≤ 4) × (T taken → p < n) ⌝ }
     ensures { λ r. ⌜ r ≡ exchanged ms p n taken o ⌝ }
 {
-    let rest = rest_of(n, taken);
-    let last = end_of(n, rest, o.count);
-    let mut out = ms;
-    let mut i = first_of(p, n, taken);
-    while i < last {
-        let at = i as usize;
-        if i < rest {
-            let up = place_above(i);
-            let above = out[up];
-            out[at] = above;
-            i += 1;
-            continue;
-        }
-        let m = message_sent(o, i - rest);
-        out[at] = m;
-        i += 1;
+    if taken {
+        let left = remove(ms, p, n);
+        return send(left, n - 1, o);
     }
-    out
+    send(ms, n, o)
 }

@@ -14,19 +14,9 @@ ghost use Prim.Native.Nat.{_+_, _*_, _≤_, _<_};
 ghost use lib.IntN.{pos, natAbs, _+ℤ_};
 ghost use lib.ListN.{getD, set};
 ghost use Rattle.rules.specs.Conditions.{all};
-ghost use Rattle.rules.specs.Clock.{plus};
-ghost use Rattle.rules.specs.Steps.{offsetAllows, hasHeard, isInTouch, isSo, rowNow};
+ghost use Rattle.rules.specs.Steps.{offsetAllows, hasHeard, isInTouch, isSo, ended, rowNow};
 ghost use Rattle.rules.proofs.Kept.{Configured};
-ghost use Rattle.world.specs.Apart.{timeIn, ended, holdsAfter};
-
-// The clock of party p, by true time t and the offsets.
-pub fn clock_of(t: u32, os: [i32; 36], p: u32) -> u32
-    requires { ⌜ (t ≤ 1000000000) × (p < 36) ⌝ }
-    ensures { λ r. ⌜ r ≡ plus t (getD os p (pos 0)) ⌝ }
-{
-    let at = p as usize;
-    reading(t, os[at])
-}
+ghost use Rattle.world.specs.Apart.{timeIn};
 
 // Refusal 9: no clock, ahead by o, goes back or is off by more than Δ.
 pub fn does_clock_allow(c: Config, o: i32, d: u32, e: i32) -> bool
@@ -93,34 +83,22 @@ pub fn move_on(w: World, d: u32, p: u32, e: i32) -> World
 // Holds whose end is not above their client's clock are over.
 pub fn end_holds(w: World, ys: [Client; 32]) -> [Client; 32]
     requires { ⌜ Configured (w .config) × (w .time ≤ 1000000000) ⌝ }
-    ensures { λ r. ⌜ r ≡ ended w ys ⌝ }
+    ensures { λ r. ⌜ r ≡ ended (w .config) (w .time) (w .offsets) ys ⌝ }
 {
     let c = w.config;
     let count = c.clients;
-    let os = w.offsets;
     let mut out = ys;
     let mut i = 0;
     while i < count {
         let at = i as usize;
+        let p = (c.servers + i) as usize;
         let y = ys[at];
         let state = y.state;
-        let left = client::lapse(clock_of(w.time, os, c.servers + i), state);
+        let left = client::lapse(reading(w.time, w.offsets[p]), state);
         out[at] = Client { state: left };
         i += 1;
     }
     out
-}
-
-// The clients after a step, t being true time before it. A pass moves true time, by 1 or more, and no other step does;
-// a pass ends holds, and no other step does.
-pub fn holds_after(t: u32, w: World, ys: [Client; 32]) -> [Client; 32]
-    requires { ⌜ Configured (w .config) × (w .time ≤ 1000000000) ⌝ }
-    ensures { λ r. ⌜ r ≡ holdsAfter t w ys ⌝ }
-{
-    if t < w.time {
-        return end_holds(w, ys);
-    }
-    ys
 }
 
 // Refusal 11: what a notice says of a server, alive or not since `changed`, is so at true time t, or was until less than ν ago.

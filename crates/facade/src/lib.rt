@@ -1,50 +1,54 @@
 // A whole facade: fresh, a step of any kind, and how many clients hold.
-use answers::refused;
 use arith::both;
-use asking::discover_step;
-use asking::renew_step;
-use asking::request_step;
+use arith::reading;
 use cable::exchange;
+use cable::rest_of;
 use client::is_holding;
-use clocks::holds_after;
-use delivery::deliver_step;
-use events::cleanup_step;
-use events::fail_step;
-use events::lose_step;
-use events::notice_step;
-use events::pass_step;
-use events::return_step;
+use clocks::end_holds;
+use clocks::move_on;
+use deeds::client_after;
+use deeds::deed_of;
+use deeds::next_after;
+use deeds::notices_after;
+use deeds::server_after;
+use deeds::takes_out;
+use outbox::nothing;
 use ranges::config_in_range;
 use ranges::facade_in_range;
+use refusals::first_broken;
+use steps::action_of;
+use steps::malformed;
 use types::Answer;
-use types::Change;
 use types::Client;
+use types::ClientEvent;
 use types::Config;
+use types::Deed;
 use types::Facade;
-use types::Lives;
-use types::Message;
+use types::Outbox;
 use types::Server;
+use types::ServerEvent;
 use types::State;
 use types::Step;
 use types::World;
-use world::client_place;
 use world::facade_of;
 use world::lives_of;
-use world::message_place;
-use world::server_place;
+use world::place_below;
 use world::world_of;
 ghost use mathlib.Core.Path.{_≡_};
 ghost use mathlib.Core.Bool.{cond};
-ghost use Prim.Native.Nat.{_+_, _<_};
+ghost use Prim.Native.Nat.{_+_, _≤_, _<_};
 ghost use lib.Dec.{T, ltb};
 ghost use lib.ListN.{getD};
+ghost use Rattle.types.specs.declared.Deed.the-variants.{Serves, Asks};
 ghost use Rattle.rules.specs.Conditions.{_and_};
 ghost use Rattle.rules.specs.Parts.{noClient};
+ghost use Rattle.rules.specs.Messages.{without};
 ghost use Rattle.rules.specs.Client.{isHolding};
-ghost use Rattle.rules.specs.Ranges.{inRange, messageInRange};
-ghost use Rattle.rules.specs.Steps.{fresh as freshFacade, start, refused as refusedWith, step as stepOf, heldClients};
-ghost use Rattle.answers.specs.Changes.{Answers, Fits, WorldInRange};
-ghost use Rattle.facade.specs.Held.{heldAmong};
+ghost use Rattle.rules.specs.Ranges.{inRange};
+ghost use Rattle.rules.specs.Views.{worldOf};
+ghost use Rattle.rules.specs.Steps.{fresh as freshFacade, start, refused as refusedWith, enacted, step as stepOf, heldAmong, heldClients};
+ghost use Rattle.deeds.specs.Deeds.{DeedInRange};
+ghost use Rattle.facade.specs.Settled.{settled, unlessFull};
 
 // Before any step. All places are filled alike.
 fn fresh_facade(c: Config) -> Facade
@@ -92,62 +96,117 @@ pub fn fresh(c: Config) -> Answer
     refuse(f, 2)
 }
 
-// What a step changes in a facade that is in range: by its world, the lives of its servers, and the server, the client and
-// the message at hand. The kind number decides it.
-pub fn change(w: World, l: Lives, own: Server, y: Client, m: Message, s: Step) -> Change
-    requires { ⌜ WorldInRange w × (s .first < w .waiting → T (messageInRange (w .config) (w .next) m)) ⌝ }
-    ensures { λ x. ⌜ Answers w l own y m s x × Fits w s x ⌝ }
+// The facade after a step: w, ss and ys are its world, servers and clients, and of the messages of f that at p is taken out if
+// `taken`, and what was sent waits behind the rest. Refusal 13 is the last.
+fn settle(
+    f: Facade,
+    w: World,
+    ss: [Server; 4],
+    ys: [Client; 32],
+    p: u32,
+    taken: bool,
+    sent: Outbox,
+    outcome: u32,
+) -> Answer
+    requires { ⌜ (f .waiting ≤ 128) × (w .waiting ≡ f .waiting) × (sent .count ≤ 4) × (T taken → p < f .waiting) ⌝ }
+    ensures { λ r. ⌜ r ≡ unlessFull f (settled w ss ys (f .messages) p taken sent outcome) ⌝ }
 {
-    let kind = s.kind;
-    match kind {
-        1 => pass_step(w, l, own, y, s),
-        2 => fail_step(w, own, y, s),
-        3 => return_step(w, own, y, s),
-        4 => notice_step(w, l, own, y, s),
-        5 => discover_step(w, own, y, s),
-        6 => request_step(w, own, y, s),
-        7 => renew_step(w, own, y, s),
-        8 => deliver_step(w, own, y, m, s),
-        9 => lose_step(w, own, y, s),
-        10 => cleanup_step(w, own, y, s),
-        _ => refused(w, own, y, 4),
+    let after = rest_of(f.waiting, taken) + sent.count;
+    if 128 < after {
+        return refuse(f, 13);
+    }
+    let ms = f.messages;
+    let rest = exchange(ms, p, f.waiting, taken, sent);
+    let mut g = w;
+    g.waiting = after;
+    let h = facade_of(g, ss, ys, rest);
+    Answer {
+        refusal: 0,
+        outcome: outcome,
+        facade: h,
     }
 }
 
-// A step of a facade that is in range: it is taken apart, and put together with what changes, unless more than 128
-// messages would wait then: refusal 13, the last.
+// An event of server k.
+fn serve(f: Facade, p: u32, taken: bool, k: u32, e: ServerEvent) -> Answer
+    requires { ⌜ T (inRange f) × DeedInRange (worldOf f) (Serves k e) × (T taken → p < f .waiting) ⌝ }
+    ensures { λ r. ⌜ r ≡ unlessFull f (enacted (cond taken (without f p) f) (Serves k e)) ⌝ }
+{
+    let c = f.config;
+    let at = k as usize;
+    let mut ss = f.servers;
+    let own = ss[at];
+    let x = server_after(c, f.time, k, reading(f.time, f.offsets[at]), own, e);
+    let t = x.server;
+    ss[at] = t;
+    let ts = f.notices;
+    let mut w = world_of(f);
+    let now = notices_after(c, ts, f.time, k, e);
+    w.notices = now;
+    let ys = f.clients;
+    let sent = x.outbox;
+    settle(f, w, ss, ys, p, taken, sent, x.outcome)
+}
+
+// An event of client i.
+fn ask(f: Facade, p: u32, taken: bool, i: u32, e: ClientEvent) -> Answer
+    requires { ⌜ T (inRange f) × DeedInRange (worldOf f) (Asks i e) × (T taken → p < f .waiting) ⌝ }
+    ensures { λ r. ⌜ r ≡ unlessFull f (enacted (cond taken (without f p) f) (Asks i e)) ⌝ }
+{
+    let c = f.config;
+    let at = i as usize;
+    let party = (c.servers + i) as usize;
+    let mut ys = f.clients;
+    let y = ys[at];
+    let state = y.state;
+    let x = client_after(c, f.next, i, reading(f.time, f.offsets[party]), state, e);
+    let z = x.client;
+    ys[at] = z;
+    let mut w = world_of(f);
+    w.next = next_after(f.next, e);
+    let ss = f.servers;
+    let sent = x.outbox;
+    settle(f, w, ss, ys, p, taken, sent, x.outcome)
+}
+
+// What happens in a facade in range, where the message at p is taken out first if `taken`.
+fn enact(f: Facade, p: u32, taken: bool, happens: Deed) -> Answer
+    requires { ⌜ T (inRange f) × DeedInRange (worldOf f) happens × (T taken → p < f .waiting) ⌝ }
+    ensures { λ r. ⌜ r ≡ unlessFull f (enacted (cond taken (without f p) f) happens) ⌝ }
+{
+    let w = world_of(f);
+    let ss = f.servers;
+    let ys = f.clients;
+    let none = nothing();
+    match happens {
+        Deed::Rests => settle(f, w, ss, ys, p, taken, none, 0),
+        Deed::Passes(d, q, e) => {
+            let g = move_on(w, d, q, e);
+            let left = end_holds(g, ys);
+            settle(f, g, ss, left, p, taken, none, 0)
+        }
+        Deed::Serves(k, e) => serve(f, p, taken, k, e),
+        Deed::Asks(i, e) => ask(f, p, taken, i, e),
+    }
+}
+
+// A step of a facade that is in range. At hand are the message and the client with the number in its first field.
 fn step_in_range(f: Facade, s: Step) -> Answer
     requires { ⌜ T (inRange f) ⌝ }
     ensures { λ r. ⌜ r ≡ stepOf f s ⌝ }
 {
-    let w = world_of(f);
-    let mut ss = f.servers;
-    let mut ys = f.clients;
-    let ms = f.messages;
-    let from = message_place(s);
-    let m = ms[from];
-    let k = server_place(s, m);
-    let own = ss[k];
-    let i = client_place(f.config.servers, s, m);
-    let y = ys[i];
-    let x = change(w, lives_of(ss), own, y, m, s);
-    let g = x.world;
-    if 128 < g.waiting {
-        return refuse(f, 13);
+    let x = action_of(s);
+    let from = place_below(128, s.first);
+    let m = f.messages[from];
+    let near = place_below(32, s.first);
+    let y = f.clients[near];
+    let state = y.state;
+    let ss = f.servers;
+    let n = first_broken(malformed(x), world_of(f), lives_of(ss), state, x);
+    if n != 0 {
+        return refuse(f, n);
     }
-    let t = x.server;
-    ss[k] = t;
-    let z = x.client;
-    ys[i] = z;
-    let sent = x.outbox;
-    let zs = holds_after(f.time, g, ys);
-    let rest = exchange(ms, s.first, f.waiting, x.taken, sent);
-    let h = facade_of(g, ss, zs, rest);
-    Answer {
-        refusal: x.refusal,
-        outcome: x.outcome,
-        facade: h,
-    }
+    enact(f, s.first, takes_out(x), deed_of(f.config, m, x))
 }
 
 // The answer to a step, for every facade, kind number and fields.

@@ -1,50 +1,56 @@
-// Which addresses a server leads after a notice: c is the configuration, k the server's number, r its clock reading,
-// s its value and b the set of servers that it now believes live.
+// Whether a server leads an address after a notice, and its record then: c is the configuration, k the server's number, r its
+// clock reading, b the set of servers that it now believes live.
 use arith::both;
 use arith::either;
 use arith::larger;
-use arith::rank_of;
 use types::Config;
-use types::Server;
-use types::ServerAnswer;
 ghost use mathlib.Core.Path.{_≡_};
-ghost use mathlib.Core.Bool.{not};
-ghost use Prim.Native.Nat.{_≤_, _<_};
-ghost use lib.Dec.{leb};
-ghost use Rattle.rules.specs.Conditions.{_or_};
-ghost use Rattle.rules.specs.Parts.{believes};
-ghost use Rattle.rules.specs.Order.{rank, isFirst};
-ghost use Rattle.rules.specs.Server.{mayLead, raised, leadingWith, noticed as afterNotice};
+ghost use Prim.Native.Nat.{_+_, _%_, _≤_, _<_};
+ghost use Rattle.rules.specs.Order.{isFirst};
+ghost use Rattle.rules.specs.Server.{mayLead, raised};
 ghost use Rattle.rules.proofs.Kept.{Configured};
 
-// Whether server j is not believed live, or has no lower rank than `own`.
-fn is_not_before(n: u32, a: u32, own: u32, j: u32, b: [bool; 4]) -> bool
-    requires { ⌜ (1 ≤ n) × (n ≤ 4) × (j < 4) ⌝ }
-    ensures { λ r. ⌜ r ≡ (not (believes b j) or leb own (rank n a j)) ⌝ }
+// The server after server j, of n, in the round: by a test, since a division takes longer.
+pub fn next_server(n: u32, j: u32) -> u32
+    requires { ⌜ (j < n) × (n ≤ 4) ⌝ }
+    ensures { λ r. ⌜ r ≡ (j + 1) % n ⌝ }
 {
-    let other = j as usize;
-    either(!b[other], own <= rank_of(n, a, j))
+    if j + 1 < n {
+        return j + 1;
+    }
+    0
 }
 
-// Whether server k, of n, is first among those believed live in the order of address a.
+// Whether server k, of n, is first among those believed live in the order of an address below n, which is that of every address
+// with the same remainder: a walk in that order begins at the server with the address's number, and ends at k, or at one before
+// it that is believed live.
 fn is_first(n: u32, a: u32, k: u32, b: [bool; 4]) -> bool
-    requires { ⌜ (1 ≤ n) × (n ≤ 4) × (k < 4) ⌝ }
+    requires { ⌜ (n ≤ 4) × (a < n) × (k < n) ⌝ }
     ensures { λ r. ⌜ r ≡ isFirst n a k b ⌝ }
 {
-    let at = k as usize;
-    let own = rank_of(n, a, k);
-    let mut first = true;
-    let mut j = 0;
-    while j < n {
-        first = both(is_not_before(n, a, own, j, b), first);
-        j += 1;
+    let mut j = a;
+    while j != k {
+        let before = j as usize;
+        if b[before] {
+            return false;
+        }
+        j = next_server(n, j);
     }
-    both(b[at], first)
+    let own = k as usize;
+    b[own]
 }
 
 // Whether it leads address a now: `returned` is its return reading, `before` whether it led it.
-fn leads_after(c: Config, k: u32, r: u32, returned: u32, before: bool, b: [bool; 4], a: u32) -> bool
-    requires { ⌜ Configured c × (k < c .servers) ⌝ }
+pub fn leads_after(
+    c: Config,
+    k: u32,
+    r: u32,
+    returned: u32,
+    before: bool,
+    b: [bool; 4],
+    a: u32,
+) -> bool
+    requires { ⌜ Configured c × (k < c .servers) × (a < c .servers) ⌝ }
     ensures { λ l. ⌜ l ≡ mayLead c k r returned before b a ⌝ }
 {
     let first = is_first(c.servers, a, k, b);
@@ -53,7 +59,7 @@ fn leads_after(c: Config, k: u32, r: u32, returned: u32, before: bool, b: [bool;
 }
 
 // The record of an address, v before, by whether it led it before and leads it now.
-fn record_after(c: Config, r: u32, before: bool, now: bool, v: u32) -> u32
+pub fn record_after(c: Config, r: u32, before: bool, now: bool, v: u32) -> u32
     requires { ⌜ Configured c × (r ≤ 1000001000) ⌝ }
     ensures { λ x. ⌜ x ≡ raised c r before now v ⌝ }
 {
@@ -61,41 +67,4 @@ fn record_after(c: Config, r: u32, before: bool, now: bool, v: u32) -> u32
         return larger(v, r + c.mclt + 2 * c.skew);
     }
     v
-}
-
-// The server with the set b: for each address whether it leads, and its record.
-fn leading_with(c: Config, k: u32, r: u32, s: Server, b: [bool; 4]) -> Server
-    requires { ⌜ Configured c × (k < c .servers) × (r ≤ 1000001000) ⌝ }
-    ensures { λ t. ⌜ t ≡ leadingWith c k r s b ⌝ }
-{
-    let mut t = s;
-    t.believed = b;
-    let n = c.addresses;
-    let mut a = 0;
-    while a < n {
-        let at = a as usize;
-        let before = s.leads[at];
-        let now = leads_after(c, k, r, s.returned, before, b, a);
-        t.leads[at] = now;
-        t.potlease[at] = record_after(c, r, before, now, s.potlease[at]);
-        a += 1;
-    }
-    t
-}
-
-// A notice: server `about` is dead (0) or alive (1).
-pub fn noticed(c: Config, k: u32, r: u32, s: Server, about: u32, says: u32) -> ServerAnswer
-    requires { ⌜ Configured c × (k < c .servers) × (r ≤ 1000001000) × (about < c .servers) ⌝ }
-    ensures { λ x. ⌜ x ≡ afterNotice c k r s about says ⌝ }
-{
-    let mut b = s.believed;
-    let at = about as usize;
-    b[at] = says == 1;
-    let t = leading_with(c, k, r, s, b);
-    let none = outbox::nothing();
-    ServerAnswer {
-        server: t,
-        outcome: 0,
-        outbox: none,
-    }
 }

@@ -1,5 +1,4 @@
-// Refusals that look at numbers alone: of a configuration and of a facade handed in (2), and of a step's kind and fields (4, 5).
-use arith::as_signed;
+// Refusal 2: the ranges of a configuration and of a facade handed in.
 use arith::both;
 use arith::either;
 use arith::is_not_negative;
@@ -13,13 +12,11 @@ use types::Pending;
 use types::Reserved;
 use types::Server;
 use types::State;
-use types::Step;
 ghost use mathlib.Core.Path.{_≡_};
 ghost use Prim.Native.Nat.{_+_, _≤_, _<_};
 ghost use Rattle.rules.specs.Conditions.{_and_, all};
 ghost use Rattle.rules.specs.Parts.{serverAt, stateAt, messageAt, offsetAt, parties};
 ghost use Rattle.rules.specs.Ranges.{configInRange, interactionInRange, offsetInRange, reservationInRange, writeInRange, addressInRange, serverInRange, noticeInRange, stateInRange, isClient, bodyInRange, messageInRange, inRange};
-ghost use Rattle.rules.specs.Steps.{action, isKnown, fieldsInRange};
 ghost use Rattle.rules.proofs.Kept.{Configured};
 
 // Whether the seven numbers of a configuration are in range.
@@ -307,35 +304,4 @@ pub fn facade_in_range(f: Facade) -> bool
         }
     }
     false
-}
-
-// Whether the kind of a step is one of the ten, for readers of steps that have no facade yet.
-pub fn is_known_kind(s: Step) -> bool
-    ensures { λ r. ⌜ r ≡ isKnown (action s) ⌝ }
-{
-    let kind = s.kind;
-    is_within(1, 10, kind)
-}
-
-// Whether d, e, τ, keep and says of a step are in range.
-pub fn fields_in_range(s: Step) -> bool
-    ensures { λ r. ⌜ r ≡ fieldsInRange (action s) ⌝ }
-{
-    let kind = s.kind;
-    match kind {
-        1 => both(
-            is_within(1, 100000, s.first),
-            magnitude(as_signed(s.third)) <= 2000,
-        ),
-        2 => true,
-        3 => true,
-        4 => s.third <= 1,
-        5 => true,
-        6 => s.second <= 2000000000,
-        7 => s.second <= 2000000000,
-        8 => s.second <= 1,
-        9 => true,
-        10 => true,
-        _ => true,
-    }
 }

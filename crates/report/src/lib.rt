@@ -6,7 +6,7 @@ ghost use mathlib.Core.List.{[], _∷_, _++_};
 ghost use Prim.Native.Nat.{_+_, _≤_, _<_};
 ghost use lib.ListN.{length};
 ghost use Rattle.wire.specs.Numbers.{over};
-ghost use Rattle.report.specs.Lines.{digits, spaced, lineEnd, recordLine, facadeLine, heldLine};
+ghost use Rattle.report.specs.Lines.{decimal, spaced, lineEnd, recordLine, facadeLine, heldLine};
 
 // One digit.
 fn put_digit(out: &mut [u8], at: usize, n: u32) -> usize
@@ -19,21 +19,59 @@ fn put_digit(out: &mut [u8], at: usize, n: u32) -> usize
     at + 1
 }
 
-// The decimal digits of n, in at most so many places. A number of 32 bits has at most ten.
-fn put_digits(out: &mut [u8], at: usize, places: usize, n: u32) -> usize
-    requires { ⌜ at + places ≤ length (now out) ⌝ }
-    ensures { λ r. ⌜ r ≤ at + places ⌝ }
-    ensures { λ r. ⌜ r ≡ at + length (digits places n) ⌝ }
-    ensures { λ _. ⌜ now (out .exit) ≡ over (now (out .entry)) at (digits places n) ⌝ }
+// How many decimal digits n has. A number of 32 bits has at most ten.
+fn digits_of(n: u32) -> usize
+    ensures { λ r. ⌜ r ≡ length (decimal n) ⌝ }
 {
-    if places == 0 {
-        return at;
+    if n < 10 {
+        return 1;
     }
+    if n < 100 {
+        return 2;
+    }
+    if n < 1000 {
+        return 3;
+    }
+    if n < 10000 {
+        return 4;
+    }
+    if n < 100000 {
+        return 5;
+    }
+    if n < 1000000 {
+        return 6;
+    }
+    if n < 10000000 {
+        return 7;
+    }
+    if n < 100000000 {
+        return 8;
+    }
+    if n < 1000000000 {
+        return 9;
+    }
+    10
+}
+
+// The decimal digits of n, from the last to the first. Many numbers have one digit, which needs no count.
+fn put_digits(out: &mut [u8], at: usize, n: u32) -> usize
+    requires { ⌜ at + 10 ≤ length (now out) ⌝ }
+    ensures { λ r. ⌜ r ≤ at + 10 ⌝ }
+    ensures { λ r. ⌜ r ≡ at + length (decimal n) ⌝ }
+    ensures { λ _. ⌜ now (out .exit) ≡ over (now (out .entry)) at (decimal n) ⌝ }
+{
     if n < 10 {
         return put_digit(out, at, n);
     }
-    let p = put_digits(out, at, places - 1, n / 10);
-    put_digit(out, p, n % 10)
+    let count = digits_of(n);
+    let mut i = count;
+    let mut rest = n;
+    while 0 < i {
+        i -= 1;
+        put_digit(out, at + i, rest % 10);
+        rest = rest / 10;
+    }
+    at + count
 }
 
 // A space and the decimal digits of n.
@@ -44,7 +82,7 @@ fn put_spaced(out: &mut [u8], at: usize, n: u32) -> usize
     ensures { λ _. ⌜ now (out .exit) ≡ over (now (out .entry)) at (spaced n) ⌝ }
 {
     put_byte(out, at, 32);
-    put_digits(out, at + 1, 10, n)
+    put_digits(out, at + 1, n)
 }
 
 // The last number of a line, and its end.
@@ -97,7 +135,7 @@ pub fn put_record_line(
     ensures { λ r. ⌜ r ≡ at + length (recordLine k refusal outcome time waiting) ⌝ }
     ensures { λ _. ⌜ now (out .exit) ≡ over (now (out .entry)) at (recordLine k refusal outcome time waiting) ⌝ }
 {
-    let p = put_digits(out, at, 10, k);
+    let p = put_digits(out, at, k);
     let p = put_spaced(out, p, refusal);
     put_last_three(out, p, outcome, time, waiting)
 }

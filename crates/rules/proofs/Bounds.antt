@@ -5,6 +5,7 @@ use native.Mathlib.Omega.{arith}
 use lib.Dec.{leb, ltb, eqb}
 use Rattle.types.specs.declared.Config.{Config}
 use Rattle.types.specs.declared.Server.{Server}
+use Rattle.types.specs.declared.Binding.{Binding}
 use Rattle.types.specs.declared.State.{State}
 use Rattle.types.specs.declared.State.the-variants.{Idle, Asking, Offered, Waiting, Holding}
 use Rattle.types.specs.declared.Body.{Body}
@@ -14,13 +15,16 @@ use Rattle.types.specs.declared.Facade.{Facade}
 use Rattle.types.specs.declared.Step.{Step}
 use Rattle.types.specs.declared.Answer.{Answer}
 use Rattle.types.specs.declared.ServerAnswer.{ServerAnswer}
+use Rattle.types.specs.declared.BindingAnswer.{BindingAnswer}
 use Rattle.types.specs.declared.ClientAnswer.{ClientAnswer}
 use Rattle.rules.specs.Conditions.{_and_, unless}
-use Rattle.rules.specs.Parts.{leadsAt, writeAt}
+use Rattle.rules.specs.Parts.{messageAt}
 use Rattle.rules.specs.Ranges.{isServer}
-use Rattle.rules.specs.Server.{noticed, cleaned, offers, onDiscover, granted, grantable, grants, onRequest, onRenew, onWrite, matchesWrite, onWriteAck, serverHandles, serverReceives}
+use Rattle.rules.specs.Server.{noticed, cleaned, offered, offers, onDiscover, granted, grantable, grants, onRequest, onRenew, onWrite, matchesWrite, onWriteAck, serverHandles, serverReceives}
 use Rattle.rules.specs.Client.{isHolding, discovers, requests, renews, asksWith, onOffer, expects, onAck, clientHandles}
-use Rattle.rules.specs.Steps.{Action, pass, fail, return, notice, discover, request, renew, deliver, lose, cleanup, unknown, action, handled, effect, refusal, answerTo, step}
+use Rattle.rules.specs.Steps.{Action, pass, fail, return, notice, discover, request, renew, deliver, lose, cleanup, unknown, action, delivered, deed, takes, takenOut, enacted, serverAfter, clientAfter, effect, broken, refusal, answerTo, step, malformed, barred}
+use Rattle.types.specs.declared.Deed.{Deed}
+use Rattle.rules.proofs.Kept.{handled, takenIf, deliver-is}
 use Rattle.rules.proofs.Laws.{cond-case}
 
 -- Refusals.
@@ -32,7 +36,7 @@ unless-high true n below m p q = q
 unless-high false n below m p q = p
 
 pub refusal-high : (f : Facade) (x : Action) → refusal f x ≤ 13
-unfolding refusal
+unfolding refusal broken malformed barred
 refusal-high f x =
     unless-high _ _ _ _ (omega arith)
     (unless-high _ _ _ _ (omega arith)
@@ -51,21 +55,24 @@ refusal-high f x =
 abbrev ServerLow : ServerAnswer → Type 0
 ServerLow x = x .outcome ≤ 2
 
+abbrev BindingLow : BindingAnswer → Type 0
+BindingLow x = x .outcome ≤ 2
+
 offers-high : (c : Config) (k r : ℕ) (s : Server) (p q a : ℕ) → ServerLow (offers c k r s p q a)
-unfolding offers
+unfolding offers offered
 offers-high c k r s p q a = cond-case ServerLow (ltb a (c .addresses)) _ _ (λ _. omega arith) (λ _. omega arith)
 
-grants-high : (c : Config) (k r : ℕ) (s : Server) (p q a t : ℕ) → ServerLow (grants c k r s p q a t)
+grants-high : (c : Config) (k r : ℕ) (b : Binding) (p q a t : ℕ) → BindingLow (grants c k r b p q a t)
 unfolding grants granted
-grants-high c k r s p q a t = cond-case ServerLow (grantable c r s a) _ _ (λ _. omega arith) (λ _. omega arith)
+grants-high c k r b p q a t = cond-case BindingLow (grantable c r b) _ _ (λ _. omega arith) (λ _. omega arith)
 
-renew-high : (c : Config) (k r : ℕ) (s : Server) (p q a e t : ℕ) → ServerLow (onRenew c k r s p q a e t)
+renew-high : (c : Config) (k r : ℕ) (b : Binding) (p q a e t : ℕ) → BindingLow (onRenew c k r b p q a e t)
 unfolding onRenew granted
-renew-high c k r s p q a e t = cond-case ServerLow (leadsAt s a and leb r e) _ _ (λ _. omega arith) (λ _. omega arith)
+renew-high c k r b p q a e t = cond-case BindingLow (b .leads and leb r e) _ _ (λ _. omega arith) (λ _. omega arith)
 
-write-ack-high : (c : Config) (s : Server) (p q a v : ℕ) → ServerLow (onWriteAck c s p q a v)
+write-ack-high : (c : Config) (b : Binding) (p q v : ℕ) → BindingLow (onWriteAck c b p q v)
 unfolding onWriteAck
-write-ack-high c s p q a v = cond-case ServerLow (leadsAt s a and matchesWrite q v ((writeAt s a) .pending)) _ _ (λ _. omega arith) (λ _. omega arith)
+write-ack-high c b p q v = cond-case BindingLow (b .leads and matchesWrite q v (b .write .pending)) _ _ (λ _. omega arith) (λ _. omega arith)
 
 server-handles-high : (c : Config) (k r : ℕ) (s : Server) (p q : ℕ) (b : Body) → ServerLow (serverHandles c k r s p q b)
 unfolding serverHandles onDiscover onRequest onWrite
@@ -73,9 +80,9 @@ server-handles-high c k r s p q Empty = omega arith
 server-handles-high c k r s p q Discover = offers-high c k r s p q _
 server-handles-high c k r s p q (Offer a) = omega arith
 server-handles-high c k r s p q (Request a t) = grants-high c k r _ p q a t
-server-handles-high c k r s p q (Renew a e t) = renew-high c k r s p q a e t
+server-handles-high c k r s p q (Renew a e t) = renew-high c k r _ p q a e t
 server-handles-high c k r s p q (Write a v) = omega arith
-server-handles-high c k r s p q (WriteAck a v) = write-ack-high c s p q a v
+server-handles-high c k r s p q (WriteAck a v) = write-ack-high c _ p q v
 server-handles-high c k r s p q (Ack a e) = omega arith
 
 server-receives-high : (c : Config) (k r : ℕ) (s : Server) (m : Message) → ServerLow (serverReceives c k r s m)
@@ -124,14 +131,14 @@ abbrev Low : Answer → Type 0
 Low x = (x .refusal ≤ 13) × (x .outcome ≤ 2)
 
 handled-high : (f : Facade) (m : Message) → Low (handled f m)
-unfolding handled
+unfolding delivered enacted serverAfter clientAfter
 handled-high f m =
-    cond-case Low (isServer (f .config) (m .receiver)) _ _
+    cond-case (λ (d : Deed). Low (enacted f d)) (isServer (f .config) (m .receiver)) _ _
     (λ _. (omega arith, server-receives-high _ _ _ _ m))
     (λ _. (omega arith, client-handles-high _ _ _ _))
 
 effect-high : (f : Facade) (x : Action) → Low (effect f x)
-unfolding effect noticed cleaned
+unfolding effect deed takes takenOut enacted serverAfter clientAfter noticed cleaned
 effect-high f (pass d p e) = (omega arith, omega arith)
 effect-high f (fail k) = (omega arith, omega arith)
 effect-high f (return k) = (omega arith, omega arith)
@@ -139,7 +146,7 @@ effect-high f (notice k j says) = (omega arith, omega arith)
 effect-high f (discover i) = (omega arith, discovers-high _ i _ _)
 effect-high f (request i t) = (omega arith, requests-high _ i _ t)
 effect-high f (renew i t) = (omega arith, renews-high _ i _ t _)
-effect-high f (deliver p keep) = handled-high _ _
+effect-high f (deliver p keep) = rw (deliver-is f p keep) (handled-high (takenIf f p keep) (messageAt f p))
 effect-high f (lose p) = (omega arith, omega arith)
 effect-high f (cleanup k) = (omega arith, omega arith)
 effect-high f unknown = (omega arith, omega arith)

@@ -5,17 +5,19 @@ use native.Mathlib.Omega.{arith}
 use lib.Dec.{leb, ltb}
 use Rattle.types.specs.declared.Config.{Config}
 use Rattle.types.specs.declared.Server.{Server}
+use Rattle.types.specs.declared.Binding.{Binding}
 use Rattle.types.specs.declared.State.{State}
 use Rattle.types.specs.declared.State.the-variants.{Idle, Asking, Offered, Waiting, Holding}
 use Rattle.types.specs.declared.Body.{Body}
 use Rattle.types.specs.declared.Body.the-variants.{Empty, Discover, Offer, Request, Renew, Write, WriteAck, Ack}
 use Rattle.types.specs.declared.Message.{Message}
 use Rattle.types.specs.declared.ServerAnswer.{ServerAnswer}
+use Rattle.types.specs.declared.BindingAnswer.{BindingAnswer}
 use Rattle.types.specs.declared.ClientAnswer.{ClientAnswer}
 use Rattle.rules.specs.Conditions.{_and_}
-use Rattle.rules.specs.Parts.{message, clientParty, leadsAt, writeAt}
+use Rattle.rules.specs.Parts.{message, clientParty, leadsAt, writeAt, bindingAt}
 use Rattle.rules.specs.Messages.{nothing, post}
-use Rattle.rules.specs.Server.{writtenEnd, ackEnd, offers, onDiscover, granted, dropped, grantable, grants, onRequest, onRenew, onWrite, matchesWrite, onWriteAck, serverHandles, serverReceives}
+use Rattle.rules.specs.Server.{writtenEnd, ackEnd, offered, offers, onDiscover, granted, dropped, grantable, grants, onRequest, onRenew, onWrite, matchesWrite, onWriteAck, serverHandles, serverReceives}
 use Rattle.rules.specs.Client.{isHolding, broadcast, discovers, requests, renews, asksWith, onOffer, expects, onAck, clientHandles, clientReceives}
 use Rattle.rules.proofs.Laws.{cond-case}
 use Rattle.rules.proofs.Cable.{servers-count, others-count}
@@ -23,21 +25,24 @@ use Rattle.rules.proofs.Cable.{servers-count, others-count}
 abbrev Few : ServerAnswer → Type 0
 Few x = x .outbox .count ≤ 4
 
+abbrev FewAt : BindingAnswer → Type 0
+FewAt x = x .outbox .count ≤ 4
+
 module _ (c : Config) (k : ℕ) (few : c .servers ≤ 4) (hk : k < c .servers) where
-  few-granted : (s : Server) (p q a t l : ℕ) → Few (granted c k s p q a t l)
+  few-granted : (b : Binding) (p q a t l : ℕ) → FewAt (granted c k b p q a t l)
   unfolding granted
-  few-granted s p q a t l =
+  few-granted b p q a t l =
       omega (arith, others-count k (λ j. message k j q (Write a (writtenEnd t l))) (post nothing (message k p q (Ack a (ackEnd t l)))) (c .servers) hk)
 
   few-body : (r : ℕ) (s : Server) (p q : ℕ) (b : Body) → Few (serverHandles c k r s p q b)
-  unfolding serverHandles onDiscover offers onRequest grants dropped onRenew onWrite onWriteAck
+  unfolding serverHandles onDiscover offers offered onRequest grants onRenew onWrite onWriteAck
   few-body r s p q Empty = omega arith
   few-body r s p q Discover = cond-case Few (ltb _ (c .addresses)) _ _ (λ _. omega arith) (λ _. omega arith)
   few-body r s p q (Offer a) = omega arith
-  few-body r s p q (Request a t) = cond-case Few (grantable c r (dropped c q s) a) _ _ (λ _. few-granted _ p q a t _) (λ _. omega arith)
-  few-body r s p q (Renew a e t) = cond-case Few (leadsAt s a and leb r e) _ _ (λ _. few-granted s p q a t _) (λ _. omega arith)
+  few-body r s p q (Request a t) = cond-case FewAt (grantable c r (bindingAt (dropped c q s) a)) _ _ (λ _. few-granted _ p q a t _) (λ _. omega arith)
+  few-body r s p q (Renew a e t) = cond-case FewAt (leadsAt s a and leb r e) _ _ (λ _. few-granted _ p q a t _) (λ _. omega arith)
   few-body r s p q (Write a v) = omega arith
-  few-body r s p q (WriteAck a v) = cond-case Few (leadsAt s a and matchesWrite q v ((writeAt s a) .pending)) _ _ (λ _. omega arith) (λ _. omega arith)
+  few-body r s p q (WriteAck a v) = cond-case FewAt (leadsAt s a and matchesWrite q v ((writeAt s a) .pending)) _ _ (λ _. omega arith) (λ _. omega arith)
   few-body r s p q (Ack a e) = omega arith
 
   pub few-received : (r : ℕ) (s : Server) (m : Message) → (serverReceives c k r s m) .outbox .count ≤ 4

@@ -13,14 +13,14 @@ use Rattle.types.specs.declared.Body.the-variants.{Empty, Discover, Offer, Requ
 use Rattle.types.specs.declared.Message.{Message}
 use Rattle.types.specs.declared.Outbox.{Outbox}
 use Rattle.types.specs.declared.Facade.{Facade}
-use Rattle.types.specs.declared.Answer.{Answer}
 use Rattle.rules.specs.Parts.{serverAt, messageAt, clientParty, parties, withMessages}
 use Rattle.rules.specs.Ranges.{isServer, isClient, bodyInRange, messageInRange}
 use Rattle.rules.specs.Messages.{sendAll, without}
-use Rattle.rules.specs.Steps.{Action, pass, fail, return, notice, discover, request, renew, deliver, lose, cleanup, unknown, exists, takenOut, handled, effect}
+use Rattle.rules.specs.Steps.{Action, pass, fail, return, notice, discover, request, renew, deliver, lose, cleanup, unknown, exists, delivered, deed, takes, position, takenOut, enacted, serverAfter, noticesAfter, clientAfter, nextAfter, effect}
+use Rattle.types.specs.declared.Deed.{Deed}
 use Rattle.rules.proofs.Laws.{Or, inl, inr, and-l, and-r, clash, cond-case}
 use Rattle.rules.proofs.Cable.{Among, Waits, Posted, waits-sent, length-removed, waits-removed}
-use Rattle.rules.proofs.Kept.{Ranged, Kept}
+use Rattle.rules.proofs.Kept.{handled, takenIf, deliver-is, Ranged, Kept}
 use Rattle.rules.proofs.Leadership.{OneLeader}
 use Rattle.rules.proofs.Leases.{world, holds, sent, Claim, Leased, plain}
 use Rattle.rules.proofs.Serving.{leased-fail, leased-return, leased-notice, leased-cleanup}
@@ -51,8 +51,8 @@ module _ (f : Facade) (g : Ranged f) (four : length (f .servers) ≡ 4) (len : l
         go (inr y) = inr y
 
     leased-handled : ((handled (withMessages f ms n) m) .facade) .waiting ≤ 128 → Leased (world ((handled (withMessages f ms n) m) .facade))
-    unfolding handled messageInRange
-    leased-handled = cond-case (λ (y : Answer). (y .facade) .waiting ≤ 128 → Leased (world (y .facade))) (isServer (f .config) (m .receiver)) _ _
+    unfolding delivered enacted serverAfter noticesAfter clientAfter nextAfter messageInRange
+    leased-handled = cond-case (λ (d : Deed). (enacted (withMessages f ms n) d .facade) .waiting ≤ 128 → Leased (world (enacted (withMessages f ms n) d .facade))) (isServer (f .config) (m .receiver)) _ _
         (λ t room. Granting.keeps-receive f g four one v (m .receiver) (ltb→lt (m .receiver) _ t) _ m waits (was _ room))
         (λ t room.
         let is : m .receiver ≡ clientParty (f .config) (m .receiver - f .config .servers) = omega (arith, nltb→le (m .receiver) (f .config .servers) t) in
@@ -70,8 +70,7 @@ module _ (f : Facade) (g : Ranged f) (four : length (f .servers) ≡ 4) (len : l
       old i a e (holds q hi x) = holds q hi x
       old i a e (sent m x c) = sent m (fewer p h m x) c
 
-  leased-deliver : (p keep : ℕ) → p < f .waiting → ((handled (takenOut f p keep) (messageAt f p)) .facade) .waiting ≤ 128 → Leased (world ((handled (takenOut f p keep) (messageAt f p)) .facade))
-  unfolding takenOut
+  leased-deliver : (p keep : ℕ) → p < f .waiting → ((handled (takenIf f p keep) (messageAt f p)) .facade) .waiting ≤ 128 → Leased (world ((handled (takenIf f p keep) (messageAt f p)) .facade))
   leased-deliver p keep h =
       let here : Waits f (messageAt f p) = record { at = p; below = h; is = refl } in
       cond-case (λ k. ((handled k (messageAt f p)) .facade) .waiting ≤ 128 → Leased (world ((handled k (messageAt f p)) .facade))) (eqb keep 0) (without f p) f
@@ -79,7 +78,7 @@ module _ (f : Facade) (g : Ranged f) (four : length (f .servers) ≡ 4) (len : l
       (λ _. leased-handled (f .messages) (f .waiting) len (λ m x. x) (messageAt f p) here)
 
   pub leased-kept : ((k : ℕ) → k < f .config .servers → length ((serverAt f k) .leads) ≡ 32) → (x : Action) → Kept f x → Leased (world ((effect f x) .facade))
-  unfolding effect exists
+  unfolding effect exists deed takes position takenOut enacted serverAfter noticesAfter clientAfter nextAfter
   leased-kept leads (pass d p e) w = leased-pass f g v d p e
   leased-kept leads (fail k) w = leased-fail f g four len v k w
   leased-kept leads (return k) w = leased-return f g four len v k w
@@ -87,7 +86,7 @@ module _ (f : Facade) (g : Ranged f) (four : length (f .servers) ≡ 4) (len : l
   leased-kept leads (discover i) w = leased-discover f g v i len w
   leased-kept leads (request i t) w = leased-request f g v i t len w
   leased-kept leads (renew i t) w = leased-renew f g v i t len w
-  leased-kept leads (deliver p keep) w = leased-deliver p keep (ltb→lt p _ (w .names)) (w .room)
+  leased-kept leads (deliver p keep) w = rw (deliver-is f p keep) (leased-deliver p keep (ltb→lt p _ (w .names)) (rw (deliver-is f p keep) at (w .room)))
   leased-kept leads (lose p) w = leased-lose p (ltb→lt p _ (w .names))
   leased-kept leads (cleanup k) w = leased-cleanup f g four len v one k w
   leased-kept leads unknown w = v

@@ -8,23 +8,25 @@ use native.Mathlib.Nat.{le-refl}
 use native.Mathlib.Omega.{arith}
 use lib.Dec.{T, leb, ltb, leb→le, ltb→lt, eqb→eq}
 use lib.ListN.{length, getD, set, replicate, length-set}
-use lib.Seq.{getD-set-same}
+use lib.Seq.{getD-set-same, set-getD}
+use Rattle.types.specs.declared.Reserved.the-variants.{Taken}
 use Rattle.types.specs.declared.Reservation.{Reservation}
 use Rattle.types.specs.declared.Pending.{Pending}
 use Rattle.types.specs.declared.Pending.the-variants.{Closed, Open}
 use Rattle.types.specs.declared.OpenWrite.{OpenWrite}
 use Rattle.types.specs.declared.Server.{Server}
+use Rattle.types.specs.declared.Binding.{Binding}
 use Rattle.types.specs.declared.Body.{Body}
 use Rattle.types.specs.declared.Body.the-variants.{Empty, Discover, Offer, Request, Renew, Write, WriteAck, Ack}
 use Rattle.types.specs.declared.Message.{Message}
 use Rattle.types.specs.declared.Facade.{Facade}
 use Rattle.types.specs.declared.Outbox.{Outbox}
 use Rattle.types.specs.declared.ServerAnswer.{ServerAnswer}
-use Rattle.rules.specs.Conditions.{_and_, all}
-use Rattle.rules.specs.Parts.{noServer, noWrite, serverAt, clock, clientParty, message, leadsAt, lentAt, recordAt, writeAt, withReserved, withLease, withRecord, withWrite}
+use Rattle.rules.specs.Conditions.{_and_, all, lowest}
+use Rattle.rules.specs.Parts.{noServer, noWrite, serverAt, clock, clientParty, message, leadsAt, lentAt, recordAt, writeAt, bindingAt, withReserved, withBinding, withReservation, withLease}
 use Rattle.rules.specs.Ranges.{isClient, bodyInRange, messageInRange}
-use Rattle.rules.specs.Messages.{nothing, post}
-use Rattle.rules.specs.Server.{answer, closed, opened, expirySlack, hasPassed, expired, offers, onDiscover, writtenEnd, ackEnd, granted, dropped, grantable, grants, onRequest, onRenew, onWrite, matchesWrite, acknowledged, onWriteAck, serverHandles, serverReceives}
+use Rattle.rules.specs.Messages.{nothing}
+use Rattle.rules.specs.Server.{answer, bindingAnswer, atAddress, closed, opened, reservationsBy, expirySlack, hasPassed, offerable, offered, offers, onDiscover, writtenEnd, ackEnd, granted, freedIfOf, dropped, grantable, grants, onRequest, onRenew, onWrite, matchesWrite, acknowledged, onWriteAck, serverHandles, serverReceives}
 use Rattle.rules.proofs.Laws.{Or, inl, inr, and-l, and-r, cond-case, all-at, set-case, set-any, rep-ind}
 use Rattle.rules.proofs.Cable.{Waits, Posted, ToServer, posted-nothing, posted-one, posted-others}
 use Rattle.rules.proofs.Kept.{Configured, configured, Ranged}
@@ -59,65 +61,84 @@ module _ (f : Facade) (g : Ranged f) (four : length (f .servers) ≡ 4) (one : O
   same : (rs : List Reservation) → Raised (world f) k (withReserved (serverAt f k) rs)
   same rs = record { place = place; row = v .rows k hk; up = λ a. le-refl _; lead = λ a e ha al le c. c .led k hk al le }
 
-  calm : (rs : List Reservation) (n : ℕ) (o : Outbox)
-      → ((m : Message) → Posted o m → BodyOk (world f) (m .sender) (m .body) × ((i a e : ℕ) → Promises (f .config) m i a e → ⊥))
-      → Keeps (answer (withReserved (serverAt f k) rs) n o)
-  calm rs n o new sub = still (world f) v k (withReserved (serverAt f k) rs) out (same rs) hk (λ a. refl) (λ a. refl)
-      (λ m p. by o m (sub m p) (v .acks m) (λ x. new m x .0))
-      (λ m p i a e c. by o m (sub m p) (λ x. sent m x c) (λ x. absurd (new m x .1 i a e c)))
-
   pub silent : (rs : List Reservation) (n : ℕ) → Keeps (answer (withReserved (serverAt f k) rs) n nothing)
-  silent rs n = calm rs n nothing (λ m x. posted-nothing m x)
+  silent rs n sub = still (world f) v k (withReserved (serverAt f k) rs) out (same rs) hk (λ a. refl) (λ a. refl)
+      (λ m p. by nothing m (sub m p) (v .acks m) (λ x. posted-nothing m x))
+      (λ m p i a e c. by nothing m (sub m p) (λ x. sent m x c) (λ x. posted-nothing m x))
 
-  offer-calm : (p q a : ℕ) (m : Message) → Posted (post nothing (message k p q (Offer a))) m
-      → BodyOk (world f) (m .sender) (m .body) × ((i a e : ℕ) → Promises (f .config) m i a e → ⊥)
-  offer-calm p q a m x = rw (← posted-one (message k p q (Offer a)) m x) (tt, λ i a e c. c)
+  -- What is kept for address a replaced by b, which leads as before and records no less.
 
-  pub keeps-discover : (p q : ℕ) → Keeps (onDiscover (f .config) k (clock f k) (serverAt f k) p q)
-  unfolding onDiscover offers
-  keeps-discover p q =
-      cond-case Keeps (ltb _ (f .config .addresses)) _ _
-      (λ _. calm _ 0 _ (offer-calm p q _))
-      (λ _. silent ((serverAt f k) .reserved) 1)
-
-  -- A place of the server replaced: address a lent until l, with record r and open write o.
-
-  module _ (a : ℕ) (ha : a < f .config .addresses) (rs : List Reservation) (l r : ℕ) (o : OpenWrite) (more : recordAt (serverAt f k) a ≤ r) where
+  module _ (a : ℕ) (ha : a < f .config .addresses) (rs : List Reservation) (b : Binding) (leads : b .leads ≡ leadsAt (serverAt f k) a)
+      (more : recordAt (serverAt f k) a ≤ b .potlease) where
     lender : Server
-    lender = withLease (withReserved (serverAt f k) rs) a l r o
+    lender = withBinding (withReserved (serverAt f k) rs) a b
+
+    lender-leads : lender .leads ≡ (serverAt f k) .leads
+    unfolding lender
+    lender-leads = rw (leads, set-getD ((serverAt f k) .leads) a false)
+
+    lender-led : (a′ : ℕ) → T (leadsAt lender a′) → T (leadsAt (serverAt f k) a′)
+    lender-led a′ t = rw lender-leads at t
 
     lender-up : (a′ : ℕ) → recordAt (serverAt f k) a′ ≤ recordAt lender a′
     unfolding lender
-    lender-up a′ = set-any (λ x. recordAt (serverAt f k) a′ ≤ x) ((serverAt f k) .potlease) a r 0 a′ (λ q. rw q more) (le-refl _)
+    lender-up a′ = set-any (λ x. recordAt (serverAt f k) a′ ≤ x) ((serverAt f k) .potlease) a (b .potlease) 0 a′ (λ q. rw q more) (le-refl _)
 
     lender-raised : Raised (world f) k lender
     unfolding lender
     lender-raised = record {
       place = place;
-      row = length-set ((serverAt f k) .potlease) a r ∙ v .rows k hk;
+      row = length-set ((serverAt f k) .potlease) a (b .potlease) ∙ v .rows k hk;
       up = lender-up;
-      lead = λ a′ e ha′ al le c. omega (arith, c .led k hk al le, lender-up a′);
+      lead = λ a′ e ha′ al le c. omega (arith, c .led k hk al (lender-led a′ le), lender-up a′);
     }
 
     lender-grows : Grows (world f) (servedBy (world f) k lender out)
     lender-grows = served-grows (world f) v k lender out lender-raised
 
-    lender-record : recordAt (getD (set (f .servers) k lender) k noServer) a ≡ r
+    lender-record : recordAt (getD (set (f .servers) k lender) k noServer) a ≡ b .potlease
     unfolding lender
     lender-record =
-        rw (getD-set-same (f .servers) k lender noServer place) (getD-set-same ((serverAt f k) .potlease) a r 0 (omega (arith, v .rows k hk, ok .addresses-high)))
+        rw (getD-set-same (f .servers) k lender noServer place) (getD-set-same ((serverAt f k) .potlease) a (b .potlease) 0 (omega (arith, v .rows k hk, ok .addresses-high)))
 
-    lender-lent : Cov (servedBy (world f) k lender out) a l → (a′ : ℕ) → a′ < f .config .addresses → Cov (servedBy (world f) k lender out) a′ (lentAt lender a′)
+    lender-lent : Cov (servedBy (world f) k lender out) a (b .lent) → (a′ : ℕ) → a′ < f .config .addresses → Cov (servedBy (world f) k lender out) a′ (lentAt lender a′)
     unfolding lender
     lender-lent c a′ ha′ =
-        set-any (λ x. Cov (servedBy (world f) k lender out) a′ x) ((serverAt f k) .lent) a l 0 a′ (λ q. rw q c)
+        set-any (λ x. Cov (servedBy (world f) k lender out) a′ x) ((serverAt f k) .lent) a (b .lent) 0 a′ (λ q. rw q c)
         (cov-grows (world f) _ lender-grows a′ _ ha′ (v .lents k a′ hk ha′))
 
-    lender-open : OpenOk (servedBy (world f) k lender out) a o → (a′ : ℕ) → a′ < f .config .addresses → OpenOk (servedBy (world f) k lender out) a′ (writeAt lender a′)
+    lender-open : OpenOk (servedBy (world f) k lender out) a (b .write) → (a′ : ℕ) → a′ < f .config .addresses → OpenOk (servedBy (world f) k lender out) a′ (writeAt lender a′)
     unfolding lender
     lender-open c a′ ha′ =
-        set-any (λ x. OpenOk (servedBy (world f) k lender out) a′ x) ((serverAt f k) .writes) a o noWrite a′ (λ q. rw q c)
+        set-any (λ x. OpenOk (servedBy (world f) k lender out) a′ x) ((serverAt f k) .writes) a (b .write) noWrite a′ (λ q. rw q c)
         (count-grows (world f) _ lender-grows a′ _ ((writeAt (serverAt f k) a′) .pending) (v .opens k a′ hk ha′))
+
+    -- nothing is promised: the lent end is covered, the open write counts right, and what is sent promises nothing
+    unpromised : (n : ℕ) (o : Outbox) → Cov (world f) a (b .lent) → OpenOk (world f) a (b .write)
+        → ((m : Message) → Posted o m → BodyOk (servedBy (world f) k lender out) (m .sender) (m .body) × ((i a e : ℕ) → Promises (f .config) m i a e → ⊥))
+        → Keeps (answer lender n o)
+    unpromised n o cov opn new sub = quiet (world f) v k lender out lender-raised
+        (lender-lent (cov-grows (world f) _ lender-grows a (b .lent) ha cov))
+        (lender-open (count-grows (world f) _ lender-grows a (b .write .acked) (b .write .pending) opn))
+        (λ m x. by o m (sub m x) (λ y. body-grows (world f) _ lender-grows (m .sender) (m .body) (v .acks m y)) (λ y. new m y .0))
+        (λ m x i a′ e c. by o m (sub m x) (λ y. sent m y c) (λ y. absurd (new m y .1 i a′ e c)))
+
+  unchanged : (a : ℕ) → a < f .config .addresses → (rs : List Reservation) (n : ℕ)
+      → Keeps (atAddress (withReserved (serverAt f k) rs) a (bindingAnswer (bindingAt (withReserved (serverAt f k) rs) a) n nothing))
+  unfolding lender
+  unchanged a ha rs n = unpromised a ha rs (bindingAt (withReserved (serverAt f k) rs) a) refl (le-refl _) n nothing (v .lents k a hk ha) (v .opens k a hk ha) (λ m y. posted-nothing m y)
+
+  -- Discover: the address is reserved, and an offer promises nothing.
+
+  pub keeps-discover : (p q : ℕ) → Keeps (onDiscover (f .config) k (clock f k) (serverAt f k) p q)
+  unfolding onDiscover offers offered lender
+  keeps-discover p q =
+      let a : ℕ = lowest (λ a. offerable (f .config) (clock f k) (bindingAt (serverAt f k) a)) 0 (f .config .addresses) in
+      cond-case Keeps (ltb a (f .config .addresses)) _ _
+      (λ h. let ha = ltb→lt a (f .config .addresses) h in
+      unpromised a ha ((serverAt f k) .reserved) (withReservation (bindingAt (serverAt f k) a) (Taken q (clock f k))) refl (le-refl _) 0 _ (v .lents k a hk ha) (v .opens k a hk ha)
+      (λ m x. rw (← posted-one (message k p q (Offer a)) m x) (tt, λ i a e c. c)))
+      (λ _. silent ((serverAt f k) .reserved) 1)
 
   -- A grant to party p: k leads a, the lent end l is covered, and every promise of a to another client is over.
 
@@ -130,26 +151,33 @@ module _ (f : Facade) (g : Ranged f) (four : length (f .servers) ≡ 4) (one : O
     new-write : OpenWrite
     new-write = opened q (writtenEnd t l) (set (replicate 4 false) k true)
 
-    more : recordAt (serverAt f k) a ≤ new-record
-    unfolding new-record
+    new-binding : Binding
+    new-binding = withLease (bindingAt (withReserved (serverAt f k) rs) a) l new-record new-write
+
+    leads : new-binding .leads ≡ leadsAt (serverAt f k) a
+    unfolding new-binding
+    leads = refl
+
+    more : recordAt (serverAt f k) a ≤ new-binding .potlease
+    unfolding new-binding new-record
     more = omega arith
 
     grantor : Server
-    grantor = lender a ha rs l new-record new-write more
+    grantor = lender a ha rs new-binding leads more
 
     after : World
     after = servedBy (world f) k grantor out
 
     grows : Grows (world f) after
     unfolding after grantor
-    grows = lender-grows a ha rs l new-record new-write more
+    grows = lender-grows a ha rs new-binding leads more
 
     grant-record : recordAt (srv after k) a ≡ new-record
-    unfolding after grantor
-    grant-record = lender-record a ha rs l new-record new-write more
+    unfolding after grantor new-binding
+    grant-record = lender-record a ha rs new-binding leads more
 
     grant-cov : Cov after a l
-    unfolding after grantor new-record lender
+    unfolding after grantor new-binding new-record lender
     grant-cov = record {
       led = λ j hj. set-case (λ x. T (x .alive) → T (leadsAt x a) → l ≤ recordAt x a) (f .servers) k grantor noServer j place
           (λ e al le. omega (arith, getD-set-same ((serverAt f k) .potlease) a new-record 0 (omega (arith, v .rows k hk, ok .addresses-high))))
@@ -166,7 +194,7 @@ module _ (f : Facade) (g : Ranged f) (four : length (f .servers) ≡ 4) (one : O
     Granted : Message → Type 0
     Granted m = Or (message k p q (Ack a (ackEnd t l)) ≡ m) (ToServer (λ j. message k j q (Write a (writtenEnd t l))) (f .config .servers) m)
 
-    module _ (sub : (m : Message) → out m → Or (Waits f m) (Posted ((granted (f .config) k (withReserved (serverAt f k) rs) p q a t l) .outbox) m)) where
+    module _ (sub : (m : Message) → out m → Or (Waits f m) (Posted ((granted (f .config) k (bindingAt (withReserved (serverAt f k) rs) a) p q a t l) .outbox) m)) where
       says : (m : Message) → out m → Or (Waits f m) (Granted m)
       unfolding granted Granted
       says m x = by _ m (sub m x) (λ y. inl y) (λ y. inr (posted-others k _ _ (f .config .servers) (ok .servers-high) (omega (arith, ok .servers-high)) m y))
@@ -204,69 +232,49 @@ module _ (f : Facade) (g : Ranged f) (four : length (f .servers) ≡ 4) (one : O
       apart i a′ e i′ e′ ha′ (inr x) (inr x′) ne = absurd (ne (omega (arith, x .0, x′ .0)))
 
       granted-leased : Leased after
-      unfolding after grantor
-      granted-leased = served (world f) v k grantor out (lender-raised a ha rs l new-record new-write more)
-          (lender-lent a ha rs l new-record new-write more grant-cov)
-          (lender-open a ha rs l new-record new-write more grant-open)
+      unfolding after grantor new-binding
+      granted-leased = served (world f) v k grantor out (lender-raised a ha rs new-binding leads more)
+          (lender-lent a ha rs new-binding leads more grant-cov)
+          (lender-open a ha rs new-binding leads more grant-open)
           (λ m x. grant-body m (says m x))
           (λ i a′ e ha′ c. covered i a′ e ha′ (new-claim i a′ e c))
           (λ i a′ e i′ e′ ha′ c c′ ne. apart i a′ e i′ e′ ha′ (new-claim i a′ e c) (new-claim i′ a′ e′ c′) ne)
 
-    keeps-grant : Keeps (granted (f .config) k (withReserved (serverAt f k) rs) p q a t l)
-    unfolding granted after grantor lender new-record new-write
+    keeps-grant : Keeps (atAddress (withReserved (serverAt f k) rs) a (granted (f .config) k (bindingAt (withReserved (serverAt f k) rs) a) p q a t l))
+    unfolding granted after grantor lender new-binding new-record new-write
     keeps-grant sub = granted-leased sub
 
   pub keeps-request : T ((serverAt f k) .alive) → (p q a t : ℕ) → a < f .config .addresses → Keeps (onRequest (f .config) k (clock f k) (serverAt f k) p q a t)
-  unfolding onRequest grants dropped grantable expired
+  unfolding onRequest grants dropped grantable
   keeps-request al p q a t ha =
-      cond-case Keeps (leadsAt (serverAt f k) a and hasPassed (f .config) (clock f k) (recordAt (serverAt f k) a)) _ _
+      let rs : List Reservation = reservationsBy (freedIfOf q) (f .config .addresses) ((serverAt f k) .reserved) in
+      cond-case (λ x. Keeps (atAddress (dropped (f .config) q (serverAt f k)) a x)) (leadsAt (serverAt f k) a and hasPassed (f .config) (clock f k) (recordAt (serverAt f k) a)) _ _
       (λ y. let past : recordAt (serverAt f k) a + expirySlack (f .config) < clock f k = ltb→lt _ _ (and-r (leadsAt (serverAt f k) a) _ y) in
-      keeps-grant al _ p q a t (clock f k + f .config .mclt) ha (and-l _ _ y)
+      keeps-grant al rs p q a t (clock f k + f .config .mclt) ha (and-l _ _ y)
       (λ j hj. omega (arith, high))
       (λ i e c _. omega (arith, high, (v .claims i a e ha c) .led k hk al (and-l _ _ y))))
-      (λ _. silent _ 1)
+      (λ _. unchanged a ha rs 1)
 
   pub keeps-renew : T ((serverAt f k) .alive) → (i q a e t : ℕ) → a < f .config .addresses → Claim (world f) i a e
-      → Keeps (onRenew (f .config) k (clock f k) (serverAt f k) (clientParty (f .config) i) q a e t)
+      → Keeps (atAddress (serverAt f k) a (onRenew (f .config) k (clock f k) (bindingAt (serverAt f k) a) (clientParty (f .config) i) q a e t))
   unfolding onRenew
   keeps-renew al i q a e t ha claim =
-      cond-case Keeps (leadsAt (serverAt f k) a and leb (clock f k) e) _ _
+      cond-case (λ x. Keeps (atAddress (serverAt f k) a x)) (leadsAt (serverAt f k) a and leb (clock f k) e) _ _
       (λ y. let due : clock f k ≤ e = leb→le _ _ (and-r (leadsAt (serverAt f k) a) _ y) in
       keeps-grant al ((serverAt f k) .reserved) (clientParty (f .config) i) q a t (max (clock f k + f .config .mclt) (lentAt (serverAt f k) a)) ha (and-l _ _ y)
       (λ j hj. omega (arith, high, (v .lents k a hk ha) .every j hj))
       (λ i′ e′ c ne. omega (arith, low, v .pair i a e i′ e′ ha claim c (λ x. ne (ap (clientParty (f .config)) x)))))
-      (λ _. silent ((serverAt f k) .reserved) 1)
+      (λ _. unchanged a ha ((serverAt f k) .reserved) 1)
 
   -- Write: the record rises, and the write ack may say so.
 
-  pub keeps-write : (p q a e : ℕ) → a < f .config .addresses → Keeps (onWrite k (serverAt f k) p q a e)
-  unfolding onWrite
-  keeps-write p q a e ha sub =
-      quiet (world f) v k s out raised
-      (λ a′ ha′. cov-grows (world f) _ grows a′ _ ha′ (v .lents k a′ hk ha′))
-      (λ a′ ha′. count-grows (world f) _ grows a′ _ ((writeAt (serverAt f k) a′) .pending) (v .opens k a′ hk ha′))
-      (λ m x. by _ m (sub m x) (λ y. body-grows (world f) _ grows (m .sender) (m .body) (v .acks m y)) (λ y. rw (← posted-one (message k p q (WriteAck a e)) m y) new))
-      (λ m x i a′ e′ c. by _ m (sub m x) (λ y. sent m y c) (λ y. absurd (rw (← posted-one (message k p q (WriteAck a e)) m y) at c)))
-    where
-      s : Server
-      s = withRecord (serverAt f k) a (max (recordAt (serverAt f k) a) e)
-
-      up : (a′ : ℕ) → recordAt (serverAt f k) a′ ≤ recordAt s a′
-      up a′ = set-any (λ x. recordAt (serverAt f k) a′ ≤ x) ((serverAt f k) .potlease) a _ 0 a′ (λ q. rw q (omega arith)) (le-refl _)
-
-      raised : Raised (world f) k s
-      raised = record {
-        place = place;
-        row = length-set ((serverAt f k) .potlease) a _ ∙ v .rows k hk;
-        up = up;
-        lead = λ a′ e′ ha′ al le c. omega (arith, c .led k hk al le, up a′);
-      }
-
-      grows : Grows (world f) (servedBy (world f) k s out)
-      grows = served-grows (world f) v k s out raised
-
-      new : e ≤ recordAt (getD (set (f .servers) k s) k noServer) a
-      new = rw (getD-set-same (f .servers) k s noServer place, getD-set-same ((serverAt f k) .potlease) a (max (recordAt (serverAt f k) a) e) 0 (omega (arith, v .rows k hk, ok .addresses-high))) (omega arith)
+  pub keeps-write : (p q a e : ℕ) → a < f .config .addresses → Keeps (atAddress (serverAt f k) a (onWrite k (bindingAt (serverAt f k) a) p q a e))
+  unfolding onWrite lender
+  keeps-write p q a e ha =
+      let b : Binding = withLease (bindingAt (serverAt f k) a) (lentAt (serverAt f k) a) (max (recordAt (serverAt f k) a) e) (writeAt (serverAt f k) a) in
+      let more : recordAt (serverAt f k) a ≤ b .potlease = omega arith in
+      unpromised a ha ((serverAt f k) .reserved) b refl more 0 _ (v .lents k a hk ha) (v .opens k a hk ha)
+      (λ m x. rw (← posted-one (message k p q (WriteAck a e)) m x) (omega (arith, lender-record a ha ((serverAt f k) .reserved) b refl more), λ i a e c. c))
 
   -- Write ack: it counts a server whose record has the end; when all are in, every record has it.
 
@@ -295,34 +303,21 @@ module _ (f : Facade) (g : Ranged f) (four : length (f .servers) ≡ 4) (one : O
       every = λ j hj. omega (arith, (v .lents k a hk ha) .every j hj, every j hj);
     }
 
-    -- another lent end and open write for a, the records as they were
-    rewritten : (l : ℕ) (o : OpenWrite) → Cov (world f) a l → OpenOk (world f) a o → Keeps (answer (withWrite (serverAt f k) a l o) 0 nothing)
-    rewritten l o cov opn sub =
-        quiet (world f) v k s out raised
-        (λ a′ ha′. set-any (λ x. Cov (servedBy (world f) k s out) a′ x) ((serverAt f k) .lent) a l 0 a′
-        (λ is. rw is (cov-grows (world f) _ grows a l ha cov)) (cov-grows (world f) _ grows a′ _ ha′ (v .lents k a′ hk ha′)))
-        (λ a′ ha′. set-any (λ x. OpenOk (servedBy (world f) k s out) a′ x) ((serverAt f k) .writes) a o noWrite a′
-        (λ is. rw is (count-grows (world f) _ grows a (o .acked) (o .pending) opn)) (count-grows (world f) _ grows a′ _ ((writeAt (serverAt f k) a′) .pending) (v .opens k a′ hk ha′)))
-        (λ m x. by _ m (sub m x) (λ y. body-grows (world f) _ grows (m .sender) (m .body) (v .acks m y)) (λ y. posted-nothing m y))
-        (λ m x i a′ e′ c. by _ m (sub m x) (λ y. sent m y c) (λ y. posted-nothing m y))
-      where
-        s : Server
-        s = withWrite (serverAt f k) a l o
+    -- another lent end and open write for a, the record as it was
+    rewritten : (l : ℕ) (o : OpenWrite) → Cov (world f) a l → OpenOk (world f) a o
+        → Keeps (atAddress (serverAt f k) a (bindingAnswer (withLease (bindingAt (serverAt f k) a) l (recordAt (serverAt f k) a) o) 0 nothing))
+    unfolding lender
+    rewritten l o cov opn = unpromised a ha ((serverAt f k) .reserved) (withLease (bindingAt (serverAt f k) a) l (recordAt (serverAt f k) a) o) refl (le-refl _) 0 nothing cov opn
+        (λ m y. posted-nothing m y)
 
-        raised : Raised (world f) k s
-        raised = record { place = place; row = v .rows k hk; up = λ a′. le-refl _; lead = λ a′ e′ ha′ al le c. c .led k hk al le }
-
-        grows : Grows (world f) (servedBy (world f) k s out)
-        grows = served-grows (world f) v k s out raised
-
-    pub keeps-write-ack : Keeps (onWriteAck (f .config) (serverAt f k) p q a e)
+    pub keeps-write-ack : Keeps (atAddress (serverAt f k) a (onWriteAck (f .config) (bindingAt (serverAt f k) a) p q e))
     unfolding onWriteAck acknowledged acked-now
     keeps-write-ack =
-        cond-case Keeps (leadsAt (serverAt f k) a and matchesWrite q e ((writeAt (serverAt f k) a) .pending)) _ _
-        (λ y. cond-case (λ s. Keeps (answer s 0 nothing)) (all (λ j. getD acked-now j false) (f .config .servers)) _ _
+        cond-case (λ x. Keeps (atAddress (serverAt f k) a x)) (leadsAt (serverAt f k) a and matchesWrite q e ((writeAt (serverAt f k) a) .pending)) _ _
+        (λ y. cond-case (λ b. Keeps (atAddress (serverAt f k) a (bindingAnswer b 0 nothing))) (all (λ j. getD acked-now j false) (f .config .servers)) _ _
         (λ full. rewritten _ closed (all-have (λ j hj. counted-now (and-r _ _ y) j hj (all-at (λ j. getD acked-now j false) (f .config .servers) full j hj))) tt)
         (λ _. rewritten _ (opened q e acked-now) (v .lents k a hk ha) (counted-now (and-r _ _ y))))
-        (λ _. silent ((serverAt f k) .reserved) 1)
+        (λ _. unchanged a ha ((serverAt f k) .reserved) 1)
 
   -- A message, by its body.
 

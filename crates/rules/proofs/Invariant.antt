@@ -17,9 +17,10 @@ use Rattle.rules.specs.Ranges.{configInRange, stateInRange, inRange, isS
 use Rattle.rules.specs.Order.{rank}
 use Rattle.rules.specs.Messages.{without}
 use Rattle.rules.specs.Server.{closed}
-use Rattle.rules.specs.Steps.{Action, pass, fail, return, notice, discover, request, renew, deliver, lose, cleanup, unknown, fresh, action, lapse, takenOut, handled, effect, refusal, answerTo, step, run}
+use Rattle.rules.specs.Steps.{Action, pass, fail, return, notice, discover, request, renew, deliver, lose, cleanup, unknown, fresh, action, lapse, delivered, deed, takes, takenOut, enacted, effect, refusal, answerTo, step, run, ended, lapsedAt}
 use Rattle.rules.proofs.Laws.{and-l, cond-case, rep-ind}
-use Rattle.rules.proofs.Kept.{of-fresh, Configured, configured, Ranged, ranged, Kept, kept}
+use Rattle.types.specs.declared.Deed.{Deed}
+use Rattle.rules.proofs.Kept.{handled, takenIf, deliver-is, of-fresh, Configured, configured, Ranged, ranged, Kept, kept}
 use Rattle.rules.proofs.Ranges.{in-range-kept, messages-kept, fresh-in-range}
 use Rattle.rules.proofs.Leadership.{round, Led, one-leader, clock-low, led-kept, led-fresh}
 use Rattle.rules.proofs.Leases.{world, Cov, Claim, holds, sent, OpenOk, Leased}
@@ -35,11 +36,11 @@ pub record Invariant (f : Facade) : Type 0 where
 -- The configuration stays.
 
 config-handled : (f : Facade) (m : Message) → ((handled f m) .facade) .config ≡ f .config
-unfolding handled
-config-handled f m = cond-case (λ (y : Answer). (y .facade) .config ≡ f .config) (isServer (f .config) (m .receiver)) _ _ (λ _. refl) (λ _. refl)
+unfolding delivered enacted
+config-handled f m = cond-case (λ (d : Deed). (enacted f d .facade) .config ≡ f .config) (isServer (f .config) (m .receiver)) _ _ (λ _. refl) (λ _. refl)
 
 config-effect : (f : Facade) (x : Action) → ((effect f x) .facade) .config ≡ f .config
-unfolding effect lapse takenOut
+unfolding effect deed takes takenOut enacted lapse lapsedAt ended
 config-effect f (pass d p e) = refl
 config-effect f (fail k) = refl
 config-effect f (return k) = refl
@@ -48,7 +49,7 @@ config-effect f (discover i) = refl
 config-effect f (request i t) = refl
 config-effect f (renew i t) = refl
 config-effect f (deliver p keep) =
-    config-handled _ (messageAt f p) ∙ cond-case (λ (y : Facade). y .config ≡ f .config) (eqb keep 0) (without f p) f (λ _. refl) (λ _. refl)
+    rw (deliver-is f p keep) (config-handled (takenIf f p keep) (messageAt f p)) ∙ cond-case (λ (y : Facade). y .config ≡ f .config) (eqb keep 0) (without f p) f (λ _. refl) (λ _. refl)
 config-effect f (lose p) = refl
 config-effect f (cleanup k) = refl
 config-effect f unknown = refl

@@ -1,19 +1,23 @@
 -- What a test that passed says: the ranges of a facade, and the rules that a step has kept.
 use mathlib.Core.Path.{_≡_, refl}
+use mathlib.Core.Bool.{Bool, true, false, cond}
 use mathlib.Core.Logic.{_≢_}
-use Prim.Native.Nat.{ℕ, _+_, _≤_, _<_}
+use Prim.Native.Nat.{ℕ, _+_, _-_, _≤_, _<_}
 use native.Mathlib.Omega.{arith}
 use native.Mathlib.Decide.{ℕ-discrete}
 use lib.ListN.{getD, replicate, getD-replicate}
 use lib.Dec.{T, leb, eqb, leb→le, le→leb, eqb→eq, eqb-refl}
-use Rattle.types.specs.declared.Config.{Config}
 use Rattle.types.specs.declared.Server.{Server}
 use Rattle.types.specs.declared.Message.{Message}
 use Rattle.types.specs.declared.Facade.{Facade}
 use Rattle.rules.specs.Conditions.{within, all}
 use Rattle.rules.specs.Parts.{noServer, parties, serverAt, stateAt, messageAt, offsetAt, noticeAt}
+use Rattle.types.specs.declared.Answer.{Answer}
+use Rattle.types.specs.declared.Config.{Config}
+use Rattle.rules.specs.Messages.{without}
+use Rattle.rules.specs.Views.{whole}
 use Rattle.rules.specs.Ranges.{configInRange, offsetInRange, serverInRange, noticeInRange, stateInRange, messageInRange, inRange, lastTime, lastInteraction, mostWaiting}
-use Rattle.rules.specs.Steps.{freshServer, Action, isKnown, fieldsInRange, exists, stateAllows, ofPass, timeLeft, clockAllows, inTouch, ofNotice, isCredible, interactionLeft, roomLeft, effect, refusal}
+use Rattle.rules.specs.Steps.{freshServer, Action, deliver, delivered, deed, takes, position, takenOut, enacted, isKnown, fieldsInRange, exists, stateAllows, ofPass, timeLeft, clockAllows, inTouch, ofNotice, isCredible, interactionLeft, roomLeft, effect, broken, refusal, malformed, barred}
 use Rattle.rules.proofs.Laws.{and-l, and-r, and-both, or-elim, or-l, or-r, within-low, within-high, unless-ok, all-at, all-by}
 use Rattle.rules.proofs.Cable.{Waits}
 
@@ -110,23 +114,38 @@ in-range f v =
     (and-both _ _ (all-by _ _ (v .client))
     (all-by _ _ (λ p h. v .message (messageAt f p) (record { at = p; below = h; is = refl }))))))))))
 
+-- A delivery: the message is handled in the facade that it was taken out of.
+
+abbrev pub handled : Facade → Message → Answer
+handled f m = enacted f (delivered (f .config) m)
+
+abbrev pub takenIf : Facade → ℕ → ℕ → Facade
+takenIf f p keep = cond (eqb keep 0) (without f p) f
+
+pub deliver-is : (f : Facade) (p keep : ℕ) → effect f (deliver p keep) ≡ handled (takenIf f p keep) (messageAt f p)
+unfolding effect deed takes position takenOut
+deliver-is f p keep = go (eqb keep 0) where
+  go : (b : Bool) → enacted (cond b (without f p) f) (delivered (f .config) (messageAt f p)) ≡ handled (cond b (without f p) f) (messageAt f p)
+  go true = refl
+  go false = refl
+
 -- A step that is not refused has kept every rule.
 
 pub record Kept (f : Facade) (x : Action) : Type 0 where
   pub range : T (inRange f)
   pub known : T (isKnown x)
   pub fields : T (fieldsInRange x)
-  pub names : T (exists f x)
-  pub state : T (stateAllows f x)
-  pub time : T (ofPass (timeLeft f) x)
-  pub clocks : T (ofPass (clockAllows f) x)
-  pub touch : T (ofPass (inTouch f) x)
-  pub timely : T (ofNotice (isCredible f) x)
-  pub fresh-interaction : T (interactionLeft f x)
+  pub names : T (exists (whole f) x)
+  pub state : T (stateAllows (whole f) x)
+  pub time : T (ofPass (timeLeft (whole f)) x)
+  pub clocks : T (ofPass (clockAllows (whole f)) x)
+  pub touch : T (ofPass (inTouch (whole f)) x)
+  pub timely : T (ofNotice (isCredible (whole f)) x)
+  pub fresh-interaction : T (interactionLeft (whole f) x)
   pub room : (effect f x) .facade .waiting ≤ mostWaiting
 
 pub kept : (f : Facade) (x : Action) → refusal f x ≡ 0 → Kept f x
-unfolding refusal roomLeft
+unfolding refusal broken malformed barred roomLeft
 kept f x e =
     let t₂ = unless-ok _ _ _ (omega arith) e in
     let t₄ = unless-ok _ _ _ (omega arith) (t₂ .1) in

@@ -4,32 +4,34 @@ use mathlib.Core.Path.{_≡_, refl, sym, _∙_, fun-ext}
 use mathlib.Core.Logic.{_≢_}
 use mathlib.Core.Bool.{Bool, true, false, not, cond}
 use mathlib.Core.List.{List}
-use Prim.Native.Nat.{ℕ, zero, suc, _+_, _*_, _≤_, _<_}
+use Prim.Native.Nat.{ℕ, zero, suc, _+_, _-_, _*_, _≤_, _<_}
 use native.Mathlib.Omega.{arith}
 use native.Mathlib.Decide.{ℕ-discrete, decLt}
 use lib.Dec.{T, leb, ltb, eqb, leb→le, ltb→lt, eqb→eq}
 use lib.ListN.{length, getD, set, replicate, length-set}
-use lib.Seq.{getD-set-same, getD-set-other}
+use lib.Seq.{getD-set-same, getD-set-other, set-getD}
 use lib.IntN.{ℤ, pos, natAbs, _+ℤ_}
 use Rattle.types.specs.declared.Config.{Config}
 use Rattle.types.specs.declared.Server.{Server}
+use Rattle.types.specs.declared.Binding.{Binding}
 use Rattle.types.specs.declared.Body.{Body}
 use Rattle.types.specs.declared.Body.the-variants.{Empty, Discover, Offer, Request, Renew, Write, WriteAck, Ack}
 use Rattle.types.specs.declared.Message.{Message}
 use Rattle.types.specs.declared.Facade.{Facade}
-use Rattle.types.specs.declared.Answer.{Answer}
 use Rattle.types.specs.declared.ServerAnswer.{ServerAnswer}
+use Rattle.types.specs.declared.BindingAnswer.{BindingAnswer}
 use Rattle.rules.specs.Conditions.{_and_, all}
 use Rattle.rules.specs.Clock.{plus}
-use Rattle.rules.specs.Parts.{noServer, believes, leadsAt, serverAt, messageAt, offsetAt, clock, noticeAt, parties, writeAt, withLife, withMessages}
+use Rattle.rules.specs.Parts.{noServer, believes, leadsAt, serverAt, messageAt, offsetAt, clock, noticeAt, parties, writeAt, bindingAt, withLife, withLeading, withMessages}
 use Rattle.rules.specs.Ranges.{offsetInRange, isServer}
-use Rattle.rules.specs.Messages.{without}
+use Rattle.rules.specs.Messages.{removed, without}
 use Rattle.rules.specs.Order.{rank, isFirst}
-use Rattle.rules.specs.Server.{leadDelay, leadsAfter, leadingWith, noticed, afterReturn, cleaned, offers, onDiscover, granted, dropped, grantable, grants, onRequest, onRenew, onWrite, matchesWrite, acknowledged, onWriteAck, serverHandles, serverReceives}
-use Rattle.rules.specs.Steps.{Action, pass, fail, return, notice, discover, request, renew, deliver, lose, cleanup, unknown, fresh, exists, ofPass, clockAllows, inTouch, ofNotice, isCredible, rowNow, lapse, takenOut, handled, effect}
+use Rattle.rules.specs.Server.{leadDelay, leadsAfter, leadingWith, noticed, afterReturn, cleaned, offered, offers, onDiscover, granted, dropped, grantable, grants, onRequest, onRenew, onWrite, matchesWrite, acknowledged, onWriteAck, serverHandles, serverReceives}
+use Rattle.rules.specs.Steps.{Action, pass, fail, return, notice, discover, request, renew, deliver, lose, cleanup, unknown, fresh, exists, ofPass, clockAllows, inTouch, ofNotice, isCredible, rowNow, lapse, delivered, deed, takes, takenOut, enacted, serverAfter, noticesAfter, clientAfter, nextAfter, effect, ended, lapsedAt}
+use Rattle.types.specs.declared.Deed.{Deed}
 use Rattle.rules.proofs.Laws.{and-l, and-r, or-elim, clash, not-eqb, cond-case, all-at, set-case, set-any, rep-ind, rep-true, rep-false, length-filled, filled-at}
 use Rattle.rules.proofs.Clocks.{plus-low, plus-high, plus-later, plus-mono}
-use Rattle.rules.proofs.Kept.{of-fresh, Configured, configured, Ranged, Kept}
+use Rattle.rules.proofs.Kept.{handled, deliver-is, of-fresh, Configured, configured, Ranged, Kept}
 
 -- Orders.
 
@@ -145,17 +147,25 @@ module _ (c : Config) (k r : ℕ) (s : Server) where
   abbrev SameCore : ServerAnswer → Type 0
   SameCore x = coreOf (x .server) ≡ coreOf s
 
+  abbrev SameLead : ℕ → BindingAnswer → Type 0
+  SameLead a x = x .binding .leads ≡ leadsAt s a
+
+  core-at : (a : ℕ) (l : Bool) → l ≡ leadsAt s a → coreOf (withLeading s (s .believed) (set (s .leads) a l) (s .potlease)) ≡ coreOf s
+  core-at a l e = rw (e, set-getD (s .leads) a false)
+
   core-body : (p q : ℕ) (b : Body) → SameCore (serverHandles c k r s p q b)
-  unfolding serverHandles onDiscover offers onRequest grants dropped granted onRenew onWrite onWriteAck acknowledged
+  unfolding serverHandles onDiscover offers offered onRequest grants dropped granted onRenew onWrite onWriteAck acknowledged
   core-body p q Empty = refl
-  core-body p q Discover = cond-case SameCore (ltb _ (c .addresses)) _ _ (λ _. refl) (λ _. refl)
+  core-body p q Discover = cond-case SameCore (ltb _ (c .addresses)) _ _ (λ _. core-at _ _ refl) (λ _. refl)
   core-body p q (Offer a) = refl
-  core-body p q (Request a t) = cond-case SameCore (grantable c r (dropped c q s) a) _ _ (λ _. refl) (λ _. refl)
-  core-body p q (Renew a e t) = cond-case SameCore (leadsAt s a and leb r e) _ _ (λ _. refl) (λ _. refl)
-  core-body p q (Write a v) = refl
-  core-body p q (WriteAck a v) = cond-case SameCore (leadsAt s a and matchesWrite q v ((writeAt s a) .pending)) _ _
-      (λ _. cond-case (λ x. coreOf x ≡ coreOf s) (all _ (c .servers)) _ _ (λ _. refl) (λ _. refl))
-      (λ _. refl)
+  core-body p q (Request a t) =
+      core-at a _ (cond-case (SameLead a) (grantable c r (bindingAt (dropped c q s) a)) _ _ (λ _. refl) (λ _. refl))
+  core-body p q (Renew a e t) = core-at a _ (cond-case (SameLead a) (leadsAt s a and leb r e) _ _ (λ _. refl) (λ _. refl))
+  core-body p q (Write a v) = core-at a _ refl
+  core-body p q (WriteAck a v) = core-at a _
+      (cond-case (SameLead a) (leadsAt s a and matchesWrite q v ((writeAt s a) .pending)) _ _
+      (λ _. cond-case (λ (b : Binding). b .leads ≡ leadsAt s a) (all _ (c .servers)) _ _ (λ _. refl) (λ _. refl))
+      (λ _. refl))
   core-body p q (Ack a e) = refl
 
   pub core-received : (m : Message) → SameCore (serverReceives c k r s m)
@@ -227,7 +237,7 @@ module _ (order : ℕ → ℕ → ℕ) (f : Facade) (g : Ranged f) (v : Led orde
 
   -- fail: a dead server leads nothing and believes nothing
   pub led-fail : (i : ℕ) → Kept f (fail i) → Led order ((effect f (fail i)) .facade)
-  unfolding effect exists
+  unfolding effect deed takes takenOut enacted serverAfter noticesAfter exists
   led-fail i w =
       let h : i < f .config .servers = ltb→lt i _ (w .names) in
       replaced i (withLife (serverAt f i) false (f .time)) (f .notices) (record {
@@ -273,7 +283,7 @@ module _ (order : ℕ → ℕ → ℕ) (f : Facade) (g : Ranged f) (v : Led orde
       )
 
   pub led-return : (i : ℕ) → Kept f (return i) → Led order ((effect f (return i)) .facade)
-  unfolding effect exists afterReturn
+  unfolding effect deed takes takenOut enacted serverAfter noticesAfter exists afterReturn
   led-return i w =
       let h : i < f .config .servers = ltb→lt i _ (w .names) in
       let own : (j : ℕ) → j < f .config .servers → getD (rowNow (f .notices) i (f .time)) (i * 4 + j) 0 ≡ f .time =
@@ -363,7 +373,7 @@ module _ (order : ℕ → ℕ → ℕ) (f : Facade) (g : Ranged f) (v : Led orde
     waited a h ak t = or-elim (leadsAt (serverAt f k) a) _ (and-r _ _ (leads-now a h t)) (v .l3 k a hk h ak) (λ x. leb→le _ (clock f k) x)
 
     pub led-notice : Led order ((effect f (notice k j says)) .facade)
-    unfolding effect noticed leadingWith set-now times-now now
+    unfolding effect deed takes takenOut enacted serverAfter noticesAfter noticed leadingWith set-now times-now now
     led-notice = replaced k now times-now (record {
       exists-i = hk;
       believed = length-set ((serverAt f k) .believed) j _ ∙ v .believed k hk;
@@ -395,7 +405,7 @@ module _ (order : ℕ → ℕ → ℕ) (f : Facade) (g : Ranged f) (v : Led orde
         (λ x. or-elim (eqb j k) _ (all-at _ (f .config .servers) x j hj) (λ q. absurd (ne (eqb→eq j k q))) (λ q. omega (arith, leb→le)))
 
     pub led-pass : Led order ((effect f (pass d p e)) .facade)
-    unfolding effect lapse
+    unfolding effect deed takes takenOut enacted lapse lapsedAt ended
     led-pass = record {
       servers = v .servers;
       notices = v .notices;
@@ -410,14 +420,14 @@ module _ (order : ℕ → ℕ → ℕ) (f : Facade) (g : Ranged f) (v : Led orde
 
   -- a delivery: what a server does with a message leaves the part that leading is about
   led-handled : (ms : List Message) (n : ℕ) (m : Message) → Led order ((handled (withMessages f ms n) m) .facade)
-  unfolding handled
-  led-handled ms n m = cond-case (λ (y : Answer). Led order (y .facade)) (isServer (f .config) (m .receiver)) _ _
+  unfolding delivered enacted serverAfter noticesAfter clientAfter nextAfter
+  led-handled ms n m = cond-case (λ (d : Deed). Led order ((enacted (withMessages f ms n) d) .facade)) (isServer (f .config) (m .receiver)) _ _
       (λ t. same-core (m .receiver) _ (ltb→lt (m .receiver) _ t) (core-received (f .config) (m .receiver) (clock f (m .receiver)) (serverAt f (m .receiver)) m))
       (λ _. v)
 
   -- a step that is not refused
   pub led-kept : Orders (f .config) order → (x : Action) → Kept f x → Led order ((effect f x) .facade)
-  unfolding effect
+  unfolding effect deed takes takenOut enacted serverAfter noticesAfter clientAfter nextAfter
   led-kept o (pass d p e) w = led-pass d p e w
   led-kept o (fail k) w = led-fail k w
   led-kept o (return k) w = led-return k w
@@ -425,8 +435,8 @@ module _ (order : ℕ → ℕ → ℕ) (f : Facade) (g : Ranged f) (v : Led orde
   led-kept o (discover i) w = v
   led-kept o (request i t) w = v
   led-kept o (renew i t) w = v
-  led-kept o (deliver p keep) w = unfold takenOut in cond-case (λ h. Led order ((handled h (messageAt f p)) .facade)) (eqb keep 0) (without f p) f
-      (λ _. led-handled _ _ (messageAt f p)) (λ _. led-handled (f .messages) (f .waiting) (messageAt f p))
+  led-kept o (deliver p keep) w = rw (deliver-is f p keep) (cond-case (λ h. Led order ((handled h (messageAt f p)) .facade)) (eqb keep 0) (without f p) f
+      (λ _. led-handled (removed (f .messages) p (f .waiting)) (f .waiting - 1) (messageAt f p)) (λ _. led-handled (f .messages) (f .waiting) (messageAt f p)))
   led-kept o (lose p) w = v
   led-kept o (cleanup k) w = unfold exists cleaned in same-core k _ (ltb→lt k _ (w .names)) refl
   led-kept o unknown w = v

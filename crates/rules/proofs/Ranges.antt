@@ -18,6 +18,7 @@ use Rattle.types.specs.declared.Pending.{Pending}
 use Rattle.types.specs.declared.Pending.the-variants.{Closed, Open}
 use Rattle.types.specs.declared.OpenWrite.{OpenWrite}
 use Rattle.types.specs.declared.Server.{Server}
+use Rattle.types.specs.declared.Binding.{Binding}
 use Rattle.types.specs.declared.State.{State}
 use Rattle.types.specs.declared.State.the-variants.{Idle, Asking, Offered, Waiting, Holding}
 use Rattle.types.specs.declared.Client.{Client}
@@ -29,18 +30,20 @@ use Rattle.types.specs.declared.Facade.{Facade}
 use Rattle.types.specs.declared.Step.{Step}
 use Rattle.types.specs.declared.Answer.{Answer}
 use Rattle.types.specs.declared.ServerAnswer.{ServerAnswer}
+use Rattle.types.specs.declared.BindingAnswer.{BindingAnswer}
 use Rattle.types.specs.declared.ClientAnswer.{ClientAnswer}
-use Rattle.rules.specs.Conditions.{_and_, unless, all, lowest, filled}
-use Rattle.rules.specs.Parts.{noServer, noReservation, noWrite, noClient, noMessage, reservedAt, lentAt, recordAt, writeAt, leadsAt, withLife, withLeading, withReserved, withRecord, withWrite, message, clientParty, parties, serverAt, stateAt, messageAt, offsetAt, clock, withServer, withNotices, withClients, withClient, withTime, withNext}
+use Rattle.rules.specs.Conditions.{_and_, unless, all, lowest}
+use Rattle.rules.specs.Parts.{noServer, noReservation, noWrite, noClient, noMessage, reservedAt, lentAt, recordAt, writeAt, leadsAt, bindingAt, withLife, withLeading, withReserved, withBinding, message, clientParty, parties, serverAt, stateAt, messageAt, offsetAt, clock, withServer, withNotices, withClients, withClient, withTime, withNext}
 use Rattle.rules.specs.Ranges.{configInRange, interactionInRange, offsetInRange, reservationInRange, writeInRange, addressInRange, serverInRange, stateInRange, isServer, isClient, bodyInRange, messageInRange, inRange, endInRange, readingInRange, lastTime, lastInteraction, mostWaiting, Sound}
+use Rattle.types.specs.declared.Deed.{Deed}
 use Rattle.rules.specs.Messages.{nothing, post, sendAll, without}
-use Rattle.rules.specs.Server.{answer, closed, opened, leadRecord, leadsAfter, recordAfter, leadingWith, noticed, afterReturn, freedIfOld, cleaned, offerable, offers, onDiscover, granted, freedIfOf, dropped, grantable, grants, onRequest, onRenew, onWrite, matchesWrite, acknowledged, onWriteAck, serverHandles, serverReceives}
+use Rattle.rules.specs.Server.{answer, bindingAnswer, atAddress, closed, leadRecord, leadsAfter, recordAfter, leadingWith, noticed, afterReturn, reservationsBy, freedIfOld, cleaned, offerable, offered, offers, onDiscover, granted, freedIfOf, dropped, grantable, grants, onRequest, onRenew, onWrite, matchesWrite, acknowledged, onWriteAck, serverHandles, serverReceives}
 use Rattle.rules.specs.Client.{isHolding, reply, broadcast, lapsed, discovers, requests, renews, asksWith, onOffer, expects, onAck, clientHandles}
-use Rattle.rules.specs.Steps.{freshServer, fresh, Action, pass, fail, return, notice, discover, request, renew, deliver, lose, cleanup, unknown, action, fieldsInRange, exists, ofPass, timeLeft, clockAllows, interactionLeft, accepted, serverActs, clientActs, moved, lapse, rowNow, takenOut, handled, effect, refusal, answerTo, step, run}
+use Rattle.rules.specs.Steps.{freshServer, fresh, Action, pass, fail, return, notice, discover, request, renew, deliver, lose, cleanup, unknown, action, fieldsInRange, exists, ofPass, timeLeft, clockAllows, interactionLeft, accepted, serverActs, clientActs, lapse, rowNow, delivered, deed, takes, position, takenOut, enacted, serverAfter, noticesAfter, clientAfter, nextAfter, effect, broken, refusal, answerTo, step, run, malformed, ended, barred, lapsedAt}
 use Rattle.rules.proofs.Laws.{Or, inl, inr, and-l, and-r, and-both, cond-case, all-at, all-by, set-any, rep-ind, filled-any}
 use Rattle.rules.proofs.Clocks.{plus-high, not-negative-later, not-negative-sum}
 use Rattle.rules.proofs.Cable.{Waits, Posted, ToServer, length-sent, waits-sent, length-removed, waits-removed, posted-nothing, posted-one, posted-each, posted-others}
-use Rattle.rules.proofs.Kept.{Configured, configured, Ranged, ranged, in-range, Kept, kept}
+use Rattle.rules.proofs.Kept.{handled, deliver-is, Configured, configured, Ranged, ranged, in-range, Kept, kept}
 
 -- tests as bounds, for omega
 ruleset bounds = (arith, leb→le, ltb→lt, le→leb, lt→ltb)
@@ -131,6 +134,17 @@ server-later c t t′ n n′ s h h′ x =
 abbrev Sends : Config → ℕ → Outbox → Type 0
 Sends c n o = (m : Message) → Posted o m → T (messageInRange c n m)
 
+-- what is kept for an address in range
+record Bound (n : ℕ) (b : Binding) : Type 0 where
+  reserved : T (reservationInRange n (b .reserved))
+  lent : T (endInRange (b .lent))
+  potlease : T (endInRange (b .potlease))
+  write : T (writeInRange n (b .write .pending))
+
+record BindingFits (c : Config) (n : ℕ) (x : BindingAnswer) : Type 0 where
+  binding : Bound n (x .binding)
+  sends : Sends c n (x .outbox)
+
 record ServerFits (c : Config) (t n : ℕ) (x : ServerAnswer) : Type 0 where
   server : Stored c t n (x .server)
   sends : Sends c n (x .outbox)
@@ -165,17 +179,25 @@ module _ (c : Config) (t n : ℕ) where
     with-records : (b ls : List Bool) (ps : List ℕ) → Ends c ps → Stored c t n (withLeading s b ls ps)
     with-records b ls ps h = record { changed = v .changed; returned = v .returned; reserved = v .reserved; lent = v .lent; records = h; writes = v .writes }
 
-    with-record : (a e : ℕ) → T (endInRange e) → Stored c t n (withRecord s a e)
-    with-record a e h = with-records _ _ _ (set-end (s .potlease) a e (v .records) h)
+    with-binding : (a : ℕ) (b : Binding) → Bound n b → Stored c t n (withBinding s a b)
+    with-binding a b h = record {
+      changed = v .changed;
+      returned = v .returned;
+      reserved = λ a′ h′. set-any (λ y. T (reservationInRange n (y .state))) (s .reserved) a _ noReservation a′ (λ _. h .reserved) (v .reserved a′ h′);
+      lent = set-end (s .lent) a (b .lent) (v .lent) (h .lent);
+      records = set-end (s .potlease) a (b .potlease) (v .records) (h .potlease);
+      writes = λ a′ h′. set-any (λ y. T (writeInRange n (y .pending))) (s .writes) a _ noWrite a′ (λ _. h .write) (v .writes a′ h′);
+    }
 
-    with-write : (a l : ℕ) (w : OpenWrite) → T (endInRange l) → T (writeInRange n (w .pending)) → Stored c t n (withWrite s a l w)
-    with-write a l w hl hw =
-        let ws : Writes c n (set (s .writes) a w) = λ a′ h. set-any (λ y. T (writeInRange n (y .pending))) (s .writes) a w noWrite a′ (λ _. hw) (v .writes a′ h) in
-        record { changed = v .changed; returned = v .returned; reserved = v .reserved; lent = set-end (s .lent) a l (v .lent) hl; records = v .records; writes = ws }
+    binding-at : (a : ℕ) → a < c .addresses → Bound n (bindingAt s a)
+    binding-at a h = record { reserved = v .reserved a h; lent = v .lent a h; potlease = v .records a h; write = v .writes a h }
+
+    at-address : (a : ℕ) (x : BindingAnswer) → BindingFits c n x → ServerFits c t n (atAddress s a x)
+    at-address a x h = record { server = with-binding a (x .binding) (h .binding); sends = h .sends }
 
     -- some reservations dropped: g keeps or drops one as b says
     fewer : (g : Reserved → Reserved) (b : ℕ → ℕ → Bool) → g Free ≡ Free → ((q r : ℕ) → g (Taken q r) ≡ cond (b q r) Free (Taken q r))
-        → Stored c t n (withReserved s (filled (λ a. record { state = g (reservedAt s a) }) (c .addresses) (s .reserved)))
+        → Stored c t n (withReserved s (reservationsBy g (c .addresses) (s .reserved)))
     unfolding reservationInRange
     fewer g b at-free at-taken = with-reserved _ (λ a h. filled-any (λ x. T (reservationInRange n (x .state))) _ (c .addresses) (s .reserved) noReservation a
         (λ _. go (reservedAt s a) (v .reserved a h)) (v .reserved a h))
@@ -186,6 +208,9 @@ module _ (c : Config) (t n : ℕ) where
 
     silent : (x : ℕ) → ServerFits c t n (answer s x nothing)
     silent x = record { server = v; sends = λ m y. posted-nothing m y }
+
+  silent-at : (b : Binding) → Bound n b → (x : ℕ) → BindingFits c n (bindingAnswer b x nothing)
+  silent-at b h x = record { binding = h; sends = λ m y. posted-nothing m y }
 
   -- server k has the clock reading r
   module _ (g : Configured c) (k r : ℕ) (hk : T (isServer c k)) (hr : T (readingInRange r)) where
@@ -206,12 +231,11 @@ module _ (c : Config) (t n : ℕ) where
       sends-one : (p : ℕ) (b : Body) → T (bodyInRange c k p b) → Sends c n (post nothing (message k p q b))
       sends-one p b h m x = rw (← posted-one (message k p q b) m x) (in-message c n k p q b u h)
 
-      granted-fits : (s : Server) → Stored c t n s → (p : ℕ) → T (isClient c p) → (a w l : ℕ) → T (ltb a (c .addresses)) → T (endInRange w) → T (endInRange l)
-          → ServerFits c t n (granted c k s p q a w l)
+      granted-fits : (b : Binding) → Bound n b → (p : ℕ) → T (isClient c p) → (a w l : ℕ) → T (ltb a (c .addresses)) → T (endInRange w) → T (endInRange l)
+          → BindingFits c n (granted c k b p q a w l)
       unfolding granted writeInRange bodyInRange
-      granted-fits s v p hp a w l ha hw hl = record {
-        server = with-record _ (with-write s v a l (opened q (max w l) _) hl (and-both _ _ u high)) a (max (recordAt s a) (max w l))
-            (omega (bounds, v .records a (ltb→lt a (c .addresses) ha)));
+      granted-fits b v p hp a w l ha hw hl = record {
+        binding = record { reserved = v .reserved; lent = hl; potlease = omega (bounds, v .potlease); write = and-both _ _ u high };
         sends = λ m x. go m (posted-others k _ _ (c .servers) (g .servers-high) (omega bounds) m x);
       }
         where
@@ -224,33 +248,38 @@ module _ (c : Config) (t n : ℕ) where
               (and-both _ _ hk (and-both _ _ (lt→ltb (x .to) (c .servers) (x .below)) (and-both _ _ ha high))))
 
       handles-fit : (s : Server) → Stored c t n s → (p : ℕ) (b : Body) → T (bodyInRange c p k b) → ServerFits c t n (serverHandles c k r s p q b)
-      unfolding serverHandles onDiscover offers onRequest grants dropped freedIfOf onRenew onWrite onWriteAck acknowledged reservationInRange writeInRange bodyInRange
+      unfolding serverHandles onDiscover offers offered onRequest grants dropped freedIfOf onRenew onWrite onWriteAck acknowledged reservationInRange writeInRange bodyInRange
       handles-fit s v p Discover x =
-          let a : ℕ = lowest (offerable c r s) 0 (c .addresses) in
-          cond-case (ServerFits c t n) (ltb a (c .addresses)) _ _
-          (λ ha. record {
-            server = with-reserved s v _ (λ a′ h. set-any (λ y. T (reservationInRange n (y .state))) (s .reserved) a _ noReservation a′ (λ _. and-both _ _ u hr) (v .reserved a′ h));
-            sends = sends-one p (Offer a) (and-both _ _ hk (and-both _ _ (and-l _ _ x) ha));
-          })
+          cond-case (ServerFits c t n) (ltb (lowest (λ a. offerable c r (bindingAt s a)) 0 (c .addresses)) (c .addresses)) _ _
+          (λ ha. let b = binding-at s v _ (ltb→lt _ _ ha) in
+          at-address s v _ _ (record {
+            binding = record { reserved = and-both _ _ u hr; lent = b .lent; potlease = b .potlease; write = b .write };
+            sends = sends-one p (Offer _) (and-both _ _ hk (and-both _ _ (and-l _ _ x) ha));
+          }))
           (λ _. silent s v 1)
       handles-fit s v p (Request a w) x =
           let y = and-r _ _ (and-r _ _ x) in
           let v′ : Stored c t n (dropped c q s) = fewer s v (freedIfOf q) (λ q′ r′. eqb q′ q) refl (λ q′ r′. refl) in
-          cond-case (ServerFits c t n) (grantable c r (dropped c q s) a) _ _
-          (λ _. granted-fits (dropped c q s) v′ p (and-l _ _ x) a w (r + c .mclt) (and-l _ _ y) (and-r _ _ y) (omega bounds)) (λ _. silent (dropped c q s) v′ 1)
+          let b = binding-at (dropped c q s) v′ a (ltb→lt _ _ (and-l _ _ y)) in
+          at-address (dropped c q s) v′ a _ (cond-case (BindingFits c n) (grantable c r (bindingAt (dropped c q s) a)) _ _
+          (λ _. granted-fits _ b p (and-l _ _ x) a w (r + c .mclt) (and-l _ _ y) (and-r _ _ y) (omega bounds)) (λ _. silent-at _ b 1))
       handles-fit s v p (Renew a e w) x =
-          let y = and-r _ _ (and-r _ _ x) in let l = v .lent a (ltb→lt _ _ (and-l _ _ y)) in
-          cond-case (ServerFits c t n) (leadsAt s a and leb r e) _ _
-          (λ _. granted-fits s v p (and-l _ _ x) a w (max (r + c .mclt) (lentAt s a)) (and-l _ _ y) (and-r _ _ (and-r _ _ y)) (omega bounds)) (λ _. silent s v 1)
+          let y = and-r _ _ (and-r _ _ x) in let b = binding-at s v a (ltb→lt _ _ (and-l _ _ y)) in
+          at-address s v a _ (cond-case (BindingFits c n) (leadsAt s a and leb r e) _ _
+          (λ _. granted-fits _ b p (and-l _ _ x) a w (max (r + c .mclt) (lentAt s a)) (and-l _ _ y) (and-r _ _ (and-r _ _ y)) (omega bounds)) (λ _. silent-at _ b 1))
       handles-fit s v p (Write a e) x =
-          let y = and-r _ _ (and-r _ _ x) in let old = v .records a (ltb→lt _ _ (and-l _ _ y)) in let he : T (endInRange e) = and-r _ _ y in
-          record { server = with-record s v a (max (recordAt s a) e) (omega bounds); sends = sends-one p (WriteAck a e) (and-both _ _ hk (and-both _ _ (and-l _ _ x) y)) }
+          let y = and-r _ _ (and-r _ _ x) in let b = binding-at s v a (ltb→lt _ _ (and-l _ _ y)) in let he : T (endInRange e) = and-r _ _ y in
+          at-address s v a _ (record {
+            binding = record { reserved = b .reserved; lent = b .lent; potlease = omega bounds; write = b .write };
+            sends = sends-one p (WriteAck a e) (and-both _ _ hk (and-both _ _ (and-l _ _ x) y));
+          })
       handles-fit s v p (WriteAck a e) x =
-          let y = and-r _ _ (and-r _ _ x) in let l = v .lent a (ltb→lt _ _ (and-l _ _ y)) in let he : T (endInRange e) = and-r _ _ y in
-          cond-case (ServerFits c t n) (leadsAt s a and matchesWrite q e ((writeAt s a) .pending)) _ _
-          (λ _. silent _ (cond-case (Stored c t n) (all (λ j. getD (set ((writeAt s a) .acked) p true) j false) (c .servers)) _ _
-          (λ _. with-write s v a (max (lentAt s a) e) closed (omega bounds) tt) (λ _. with-write s v a (lentAt s a) (opened q e _) l (and-both _ _ u he))) 0)
-          (λ _. silent s v 1)
+          let y = and-r _ _ (and-r _ _ x) in let b = binding-at s v a (ltb→lt _ _ (and-l _ _ y)) in let he : T (endInRange e) = and-r _ _ y in
+          at-address s v a _ (cond-case (BindingFits c n) (leadsAt s a and matchesWrite q e ((writeAt s a) .pending)) _ _
+          (λ _. silent-at _ (cond-case (Bound n) (all (λ j. getD (set ((writeAt s a) .acked) p true) j false) (c .servers)) _ _
+          (λ _. record { reserved = b .reserved; lent = omega bounds; potlease = b .potlease; write = tt })
+          (λ _. record { reserved = b .reserved; lent = b .lent; potlease = b .potlease; write = and-both _ _ u he })) 0)
+          (λ _. silent-at _ b 1))
       handles-fit s v p Empty x = silent s v 1
       handles-fit s v p (Offer a) x = silent s v 1
       handles-fit s v p (Ack a e) x = silent s v 1
@@ -415,17 +444,17 @@ module _ (f : Facade) (v : Ranged f) (l : length (f .messages) ≡ 128) where
       l (x .outbox) (x .outcome) room (fits .sends)
 
   good-handled : (m : Message) → T (messageInRange (f .config) (f .next) m) → (handled f m) .facade .waiting ≤ mostWaiting → Good (handled f m)
-  unfolding handled serverReceives messageInRange
+  unfolding delivered enacted serverAfter noticesAfter clientAfter nextAfter serverReceives messageInRange
   good-handled m x =
       let k : ℕ = m .receiver in
       let i : ℕ = k - f .config .servers in
-      cond-case (λ y. y .facade .waiting ≤ mostWaiting → Good y) (isServer (f .config) k) _ _
+      cond-case (λ (d : Deed). (enacted f d) .facade .waiting ≤ mostWaiting → Good (enacted f d)) (isServer (f .config) k) _ _
       (λ h. server-acts k _ (f .notices)
       (cond-case (ServerFits (f .config) (f .time) (f .next)) ((serverAt f k) .alive) _ _
       (λ _. handles-fit (f .config) (f .time) (f .next) (sized f v) k (clock f k) h (reads f v k h) (m .interaction) (and-l _ _ x) (serverAt f k) (stored-at f v k h) (m .sender) (m .body) (and-r _ _ x))
       (λ _. silent (f .config) (f .time) (f .next) (serverAt f k) (stored-at f v k h) 2))
       (v .notice))
-      (λ _. client-acts i _ (client-fits (f .config) (f .next) i (clock f k) (stateAt f i) (v .client i) (m .sender) k (m .interaction) (and-l _ _ x) (m .body) (and-r _ _ x)))
+      (λ _. client-acts i _ (client-fits (f .config) (f .next) i (clock f (clientParty (f .config) i)) (stateAt f i) (v .client i) (m .sender) k (m .interaction) (and-l _ _ x) (m .body) (and-r _ _ x)))
 
 -- The ten steps.
 
@@ -443,14 +472,14 @@ row-now ts k t i h =
 
 module _ (f : Facade) (l : length (f .messages) ≡ 128) (v : Ranged f) where
   good-pass : (d p : ℕ) (e : ℤ) → Kept f (pass d p e) → Good (effect f (pass d p e))
-  unfolding effect lapse ofPass timeLeft clockAllows offsetInRange
+  unfolding effect deed takes takenOut enacted lapse lapsedAt ended ofPass timeLeft clockAllows offsetInRange
   good-pass d p e x =
       let g = later f v (f .time + d) (f .next) (set (f .offsets) p (offsetAt f p +ℤ e)) (omega arith) (leb→le (f .time + d) lastTime (x .time)) (le-refl _) (v .next-high)
       (λ p′ h. let o = v .offset p′ h in
       set-any (λ o. T (offsetInRange (f .config) (f .time + d) o)) (f .offsets) p (offsetAt f p +ℤ e) (pos 0) p′
       (λ same. and-both _ _ (and-r _ _ (x .clocks)) (not-negative-sum (f .time) d (offsetAt f p) e (rw same at (and-r _ _ o)) (and-l _ _ (x .clocks))))
       (and-both _ _ (and-l _ _ o) (not-negative-later (f .time) d (offsetAt f p′) (and-r _ _ o)))) in
-      still _ (with-clients (moved f d p e) g _ (λ i h. filled-any (λ y. T (stateInRange (f .config) (f .next) (y .state))) _ (f .config .clients) (f .clients) noClient i
+      still _ (with-clients (withTime f (f .time + d) (set (f .offsets) p (offsetAt f p +ℤ e))) g _ (λ i h. filled-any (λ y. T (stateInRange (f .config) (f .next) (y .state))) _ (f .config .clients) (f .clients) noClient i
       (λ _. lapsed-in-range (f .config) (f .next) i _ (stateAt f i) (v .client i h)) (v .client i h))) l
 
   -- a new interaction
@@ -470,17 +499,17 @@ module _ (f : Facade) (l : length (f .messages) ≡ 128) (v : Ranged f) where
       (length-removed (f .messages) p (f .waiting) h b ∙ l)
 
   good-effect : (x : Action) → Kept f x → Good (effect f x)
-  unfolding effect fieldsInRange exists interactionLeft afterReturn takenOut
+  unfolding effect fieldsInRange exists interactionLeft afterReturn deed takes position takenOut enacted serverAfter noticesAfter clientAfter nextAfter
   good-effect (pass d p e) x = good-pass d p e x
   good-effect (fail k) x =
       let s = stored-at f v k (x .names) in
       let s′ : Stored (f .config) (f .time) (f .next) (withLife (serverAt f k) false (f .time)) =
       record { changed = le→leb _ _ (le-refl (f .time)); returned = s .returned; reserved = s .reserved; lent = s .lent; records = s .records; writes = s .writes } in
-      still _ (with-server f v k _ (f .notices) s′ (v .notice)) l
+      server-acts f v l k _ (f .notices) (silent (f .config) (f .time) (f .next) _ s′ 0) (v .notice) (x .room)
   good-effect (return k) x =
-      still _ (with-server f v k _ _
-      (cleared (f .config) (f .time) (f .next) 32 (f .time) (clock f k) true _ _ _ (le→leb _ _ (le-refl (f .time))) (reads f v k (x .names)) (stored-at f v k (x .names) .records))
-      (λ k′ j h h′ ne. row-now (f .notices) k (f .time) (k′ * 4 + j) (v .notice k′ j h h′ ne))) l
+      server-acts f v l k _ _ (silent (f .config) (f .time) (f .next) _
+      (cleared (f .config) (f .time) (f .next) 32 (f .time) (clock f k) true _ _ _ (le→leb _ _ (le-refl (f .time))) (reads f v k (x .names)) (stored-at f v k (x .names) .records)) 0)
+      (λ k′ j h h′ ne. row-now (f .notices) k (f .time) (k′ * 4 + j) (v .notice k′ j h h′ ne)) (x .room)
   good-effect (notice k j says) x =
       let h = and-l _ _ (x .names) in
       server-acts f v l k _ (set (f .notices) (k * 4 + j) (f .time))
@@ -500,8 +529,9 @@ module _ (f : Facade) (l : length (f .messages) ≡ 128) (v : Ranged f) where
       let y = good-without p (x .names) in
       let m : Message = messageAt f p in
       let ok = v .message m (record { at = p; below = ltb→lt p (f .waiting) (x .names); is = refl }) in
-      cond-case (λ g. (handled g m) .facade .waiting ≤ mostWaiting → Good (handled g m)) (eqb keep 0) (without f p) f
-      (λ _. good-handled (without f p) (y .range) (y .full) m ok) (λ _. good-handled f v l m ok) (x .room)
+      rw (deliver-is f p keep)
+      (cond-case (λ g. (handled g m) .facade .waiting ≤ mostWaiting → Good (handled g m)) (eqb keep 0) (without f p) f
+      (λ _. good-handled (without f p) (y .range) (y .full) m ok) (λ _. good-handled f v l m ok) (rw (deliver-is f p keep) at (x .room)))
   good-effect (lose p) x = good-without p (x .names)
   good-effect (cleanup k) x =
       let h = x .names in
@@ -578,7 +608,7 @@ unless-other true n below h h′ = h′
 unless-other false n below h h′ = h
 
 other : (f : Facade) (x : Action) → T (inRange f) → refusal f x ≢ 2
-unfolding refusal
+unfolding refusal broken malformed barred
 other f x h =
     unless-kept (inRange f) 2 _ h (unless-other _ 4 _ (omega arith) (unless-other _ 5 _ (omega arith) (unless-other _ 6 _ (omega arith) (unless-other _ 7 _ (omega arith)
     (unless-other _ 8 _ (omega arith) (unless-other _ 9 _ (omega arith) (unless-other _ 10 _ (omega arith) (unless-other _ 11 _ (omega arith)

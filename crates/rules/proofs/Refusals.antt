@@ -1,70 +1,64 @@
--- The refusals from the top: what a step answers, once it is known which tests pass.
+-- The refusals from the top: what a step answers, by the first rule that it breaks.
 use mathlib.Core.Path.{_≡_, refl}
 use mathlib.Core.Bool.{Bool, true, false, cond}
-use lib.Dec.{leb, eqb}
+use Prim.Native.Nat.{ℕ, suc}
+use native.Mathlib.Omega.{arith}
+use borrow.Author.Tests.{ne-eqb}
+use lib.Dec.{T, eqb}
 use Rattle.types.specs.declared.Facade.{Facade}
 use Rattle.types.specs.declared.Answer.{Answer}
 use Rattle.rules.specs.Conditions.{unless}
-use Rattle.rules.specs.Ranges.{inRange, mostWaiting}
-use Rattle.rules.specs.Steps.{Action, isKnown, fieldsInRange, exists, stateAllows, ofPass, timeLeft, clockAllows, inTouch, ofNotice, isCredible, interactionLeft, effect, roomLeft, refused, refusal, answerTo}
+use Rattle.rules.specs.Views.{View, whole}
+use Rattle.rules.specs.Ranges.{inRange}
+use Rattle.rules.specs.Steps.{Action, isKnown, fieldsInRange, exists, stateAllows, ofPass, timeLeft, clockAllows, inTouch, ofNotice, isCredible, interactionLeft, malformed, barred, broken, effect, hasRoom, roomLeft, refused, refusal, answerTo}
+use Rattle.rules.proofs.Laws.{true-of}
 
-full-go : (b : Bool) (y : Answer) (f : Facade) → cond b y (refused f 13) ≡ cond (eqb (unless b 13 0) 0) y (refused f (unless b 13 0))
+-- a rule and what comes below it, where something may come below that
+over : (b : Bool) (k r below n : ℕ) → r ≡ cond (eqb below 0) n below → unless b (suc k) r ≡ cond (eqb (unless b (suc k) below) 0) n (unless b (suc k) below)
 unfolding unless
-full-go true y f = refl
-full-go false y f = refl
+over true k r below n e = e
+over false k r below n e = rw (ne-eqb (suc k) 0 (λ h. omega (arith, h)))
+
+-- the rules 4 and 5 and what comes below them
+malformed-over : (x : Action) (r below n : ℕ) → r ≡ cond (eqb below 0) n below → malformed x r ≡ cond (eqb (malformed x below) 0) n (malformed x below)
+unfolding malformed
+malformed-over x r below n e = over (isKnown x) 3 _ _ n (over (fieldsInRange x) 4 r below n e)
+
+-- the rules 4 to 12 and what comes below them
+broken-over : (v : View) (x : Action) (n : ℕ) → broken v x n ≡ cond (eqb (broken v x 0) 0) n (broken v x 0)
+unfolding broken barred
+broken-over v x n =
+    malformed-over x _ _ n (over (exists v x) 5 _ _ n (over (stateAllows v x) 6 _ _ n (over (ofPass (timeLeft v) x) 7 _ _ n
+    (over (ofPass (clockAllows v) x) 8 _ _ n (over (ofPass (inTouch v) x) 9 _ _ n (over (ofNotice (isCredible v) x) 10 _ _ n (over (interactionLeft v x) 11 n 0 n refl)))))))
+
+-- what a step alone breaks comes first
+module _ (v : View) (x : Action) where
+  pub first-malformed : (n : ℕ) → n ≡ malformed x 0 → (n ≡ 0 → ⊥) → n ≡ broken v x 0
+  unfolding broken
+  first-malformed n e h = rw (malformed-over x (barred v x 0) 0 (barred v x 0) refl, ← e, ne-eqb n 0 h)
+
+  -- and then the rules below
+  pub then-barred : (a : Action) → a ≡ x → malformed a 0 ≡ 0 → (r : ℕ) → r ≡ barred v x 0 → r ≡ broken v a 0
+  unfolding broken
+  then-barred a e m r q = rw (e, malformed-over x (barred v x 0) 0 (barred v x 0) refl, rw e at m) q
+
+-- refusal 13 comes last
+full : (b : Bool) (y : Answer) (f : Facade) → cond b y (refused f 13) ≡ cond (eqb (unless b 13 0) 0) y (refused f (unless b 13 0))
+unfolding unless
+full true y f = refl
+full false y f = refl
 
 module _ (f : Facade) (x : Action) where
   pub refused-2 : inRange f ≡ false → refused f 2 ≡ answerTo f x
   unfolding answerTo refusal unless
   refused-2 e = rw e
 
-  module _ (e₂ : inRange f ≡ true) where
-    pub refused-4 : isKnown x ≡ false → refused f 4 ≡ answerTo f x
+  module _ (t : T (inRange f)) where
+    pub refused-first : (n : ℕ) → n ≡ broken (whole f) x 0 → (n ≡ 0 → ⊥) → refused f n ≡ answerTo f x
     unfolding answerTo refusal unless
-    refused-4 e = rw (e₂, e)
+    refused-first n e h = rw (true-of (inRange f) t, broken-over (whole f) x (unless (roomLeft f x) 13 0), ← e, ne-eqb n 0 h, ne-eqb n 0 h)
 
-    module _ (e₄ : isKnown x ≡ true) where
-      pub refused-5 : fieldsInRange x ≡ false → refused f 5 ≡ answerTo f x
-      unfolding answerTo refusal unless
-      refused-5 e = rw (e₂, e₄, e)
-
-      module _ (e₅ : fieldsInRange x ≡ true) where
-        pub refused-6 : exists f x ≡ false → refused f 6 ≡ answerTo f x
-        unfolding answerTo refusal unless
-        refused-6 e = rw (e₂, e₄, e₅, e)
-
-        module _ (e₆ : exists f x ≡ true) where
-          pub refused-7 : stateAllows f x ≡ false → refused f 7 ≡ answerTo f x
-          unfolding answerTo refusal unless
-          refused-7 e = rw (e₂, e₄, e₅, e₆, e)
-
-          module _ (e₇ : stateAllows f x ≡ true) where
-            pub refused-8 : ofPass (timeLeft f) x ≡ false → refused f 8 ≡ answerTo f x
-            unfolding answerTo refusal unless
-            refused-8 e = rw (e₂, e₄, e₅, e₆, e₇, e)
-
-            module _ (e₈ : ofPass (timeLeft f) x ≡ true) where
-              pub refused-9 : ofPass (clockAllows f) x ≡ false → refused f 9 ≡ answerTo f x
-              unfolding answerTo refusal unless
-              refused-9 e = rw (e₂, e₄, e₅, e₆, e₇, e₈, e)
-
-              module _ (e₉ : ofPass (clockAllows f) x ≡ true) where
-                pub refused-10 : ofPass (inTouch f) x ≡ false → refused f 10 ≡ answerTo f x
-                unfolding answerTo refusal unless
-                refused-10 e = rw (e₂, e₄, e₅, e₆, e₇, e₈, e₉, e)
-
-                module _ (e₁₀ : ofPass (inTouch f) x ≡ true) where
-                  pub refused-11 : ofNotice (isCredible f) x ≡ false → refused f 11 ≡ answerTo f x
-                  unfolding answerTo refusal unless
-                  refused-11 e = rw (e₂, e₄, e₅, e₆, e₇, e₈, e₉, e₁₀, e)
-
-                  module _ (e₁₁ : ofNotice (isCredible f) x ≡ true) where
-                    pub refused-12 : interactionLeft f x ≡ false → refused f 12 ≡ answerTo f x
-                    unfolding answerTo refusal unless
-                    refused-12 e = rw (e₂, e₄, e₅, e₆, e₇, e₈, e₉, e₁₀, e₁₁, e)
-
-                    -- the last test is made on the effect
-                    pub unless-full : interactionLeft f x ≡ true
-                        → cond (leb ((effect f x) .facade .waiting) mostWaiting) (effect f x) (refused f 13) ≡ answerTo f x
-                    unfolding answerTo refusal unless roomLeft
-                    unless-full e = rw (e₂, e₄, e₅, e₆, e₇, e₈, e₉, e₁₀, e₁₁, e) (full-go (leb ((effect f x) .facade .waiting) mostWaiting) (effect f x) f)
+    -- the last test is made on the effect
+    pub unless-full : broken (whole f) x 0 ≡ 0 → cond (hasRoom ((effect f x) .facade)) (effect f x) (refused f 13) ≡ answerTo f x
+    unfolding answerTo refusal roomLeft unless
+    unless-full e = rw (true-of (inRange f) t, broken-over (whole f) x (unless (hasRoom ((effect f x) .facade)) 13 0), e) (full (hasRoom ((effect f x) .facade)) (effect f x) f)

@@ -9,6 +9,7 @@ use lib.ListN.{set, replicate}
 use lib.IntN.{ℤ, pos, negsuc}
 use Rattle.types.specs.declared.Reserved.the-variants.{Taken}
 use Rattle.types.specs.declared.Server.{Server}
+use Rattle.types.specs.declared.Binding.{Binding}
 use Rattle.types.specs.declared.State.{State}
 use Rattle.types.specs.declared.State.the-variants.{Idle, Asking, Offered, Waiting, Holding}
 use Rattle.types.specs.declared.Body.the-variants.{Empty, Discover, Offer, Request, Renew, Write, WriteAck, Ack}
@@ -16,7 +17,7 @@ use Rattle.types.specs.declared.Message.{Message}
 use Rattle.types.specs.declared.Facade.{Facade}
 use Rattle.types.specs.declared.Step.{Step}
 use Rattle.types.specs.declared.Answer.{Answer}
-use Rattle.rules.specs.Parts.{serverAt, message, noMessage, inState, withLife, withLeading, withReserved, withRecord, withWrite, withServer, withClient, withTime, withNext, withNotices, withMessages}
+use Rattle.rules.specs.Parts.{serverAt, message, noMessage, inState, withLife, withLeading, bindingAt, withBinding, withReservation, withLease, withServer, withClient, withTime, withNext, withNotices, withMessages}
 use Rattle.rules.specs.Server.{opened, closed}
 use Rattle.rules.specs.Steps.{fresh}
 use Rattle.rules.specs.Examples.{answered, stepOf, pass, fail, return, notice, discover, request, renew, deliver, lose, cleanup, configOf}
@@ -87,17 +88,20 @@ back r s = record { alive = s .alive; changed = s .changed; returned = r; believ
 leading : Server → Server
 leading s = withLeading s (s .believed) (replicate 32 true) (s .potlease)
 
+keeping : ℕ → (Binding → Binding) → Server → Server
+keeping a g s = withBinding s a (g (bindingAt s a))
+
 reserves : ℕ → ℕ → ℕ → Server → Server
-reserves a q r s = withReserved s (set (s .reserved) a (record { state = Taken q r }))
+reserves a q r s = keeping a (λ b. withReservation b (Taken q r)) s
 
 lends : ℕ → ℕ → Server → Server
-lends a e s = withWrite s a e closed
+lends a e s = keeping a (λ b. withLease b e (b .potlease) closed) s
 
 records : ℕ → ℕ → Server → Server
-records a v s = withRecord s a v
+records a v s = keeping a (λ b. withLease b (b .lent) v (b .write)) s
 
 writes : ℕ → ℕ → ℕ → Server → Server
-writes a q v s = withWrite s a 0 (opened q v (replicate 4 true))
+writes a q v s = keeping a (λ b. withLease b 0 (b .potlease) (opened q v (replicate 4 true))) s
 
 -- n waiting messages, all m; the places behind them hold the same
 mail : ℕ → Message → Facade → Facade
@@ -416,7 +420,7 @@ table = configs ++ counts ++ stored ++ states ++ letters ++ steps ++ map spoiled
 
 -- to open this one is to open the table
 unfoldable answerOf : Row → Answer
-unfolding answered row rowOutcome sound faulty _▷_ at next ahead heard client server alive dead after back leading reserves lends records writes mail write mixed minus lastEnd lastReading base awake silent loose new full granting offering configs counts stored states letters kinds fields names conditions passes untrue spent crowded sees outcomes pairs steps spoiled table
+unfolding answered row rowOutcome sound faulty _▷_ at next ahead heard client server alive dead after back leading keeping reserves lends records writes mail write mixed minus lastEnd lastReading base awake silent loose new full granting offering configs counts stored states letters kinds fields names conditions passes untrue spent crowded sees outcomes pairs steps spoiled table
 answerOf x = answered (x .given) (x .asked)
 
 -- the claim: the rules give what the table says

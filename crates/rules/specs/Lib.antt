@@ -3,6 +3,7 @@ pub mod Conditions
 pub mod Clock
 pub mod Parts
 pub mod Ranges
+pub mod Views
 pub mod Order
 pub mod Messages
 pub mod Server

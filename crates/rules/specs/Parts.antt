@@ -12,6 +12,7 @@ use Rattle.types.specs.declared.Reservation.{Reservation}
 use Rattle.types.specs.declared.Pending.the-variants.{Closed}
 use Rattle.types.specs.declared.OpenWrite.{OpenWrite}
 use Rattle.types.specs.declared.Server.{Server}
+use Rattle.types.specs.declared.Binding.{Binding}
 use Rattle.types.specs.declared.State.{State}
 use Rattle.types.specs.declared.State.the-variants.{Idle}
 use Rattle.types.specs.declared.Client.{Client}
@@ -91,45 +92,30 @@ withReserved s rs = record {
   writes = s .writes;
 }
 
--- for address a: the lent end l, the record v and the open write w
-abbrev pub withLease : Server → ℕ → ℕ → ℕ → OpenWrite → Server
-withLease s a l v w = record {
+-- What a server keeps for address a: reading it, and replacing it.
+
+abbrev pub bindingAt : Server → ℕ → Binding
+bindingAt s a = record { leads = leadsAt s a; reserved = reservedAt s a; lent = lentAt s a; potlease = recordAt s a; write = writeAt s a }
+
+abbrev pub withBinding : Server → ℕ → Binding → Server
+withBinding s a b = record {
   alive = s .alive;
   changed = s .changed;
   returned = s .returned;
   believed = s .believed;
-  leads = s .leads;
-  reserved = s .reserved;
-  lent = set (s .lent) a l;
-  potlease = set (s .potlease) a v;
-  writes = set (s .writes) a w;
+  leads = set (s .leads) a (b .leads);
+  reserved = set (s .reserved) a (record { state = b .reserved });
+  lent = set (s .lent) a (b .lent);
+  potlease = set (s .potlease) a (b .potlease);
+  writes = set (s .writes) a (b .write);
 }
 
-abbrev pub withRecord : Server → ℕ → ℕ → Server
-withRecord s a v = record {
-  alive = s .alive;
-  changed = s .changed;
-  returned = s .returned;
-  believed = s .believed;
-  leads = s .leads;
-  reserved = s .reserved;
-  lent = s .lent;
-  potlease = set (s .potlease) a v;
-  writes = s .writes;
-}
+abbrev pub withReservation : Binding → Reserved → Binding
+withReservation b x = record { leads = b .leads; reserved = x; lent = b .lent; potlease = b .potlease; write = b .write }
 
-abbrev pub withWrite : Server → ℕ → ℕ → OpenWrite → Server
-withWrite s a l w = record {
-  alive = s .alive;
-  changed = s .changed;
-  returned = s .returned;
-  believed = s .believed;
-  leads = s .leads;
-  reserved = s .reserved;
-  lent = set (s .lent) a l;
-  potlease = s .potlease;
-  writes = set (s .writes) a w;
-}
+-- the lent end l, the record v and the open write w
+abbrev pub withLease : Binding → ℕ → ℕ → OpenWrite → Binding
+withLease b l v w = record { leads = b .leads; reserved = b .reserved; lent = l; potlease = v; write = w }
 
 -- A client and a message.
 

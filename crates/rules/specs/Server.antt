@@ -1,5 +1,6 @@
 -- What a server does, on its own value: c is the configuration, k its number, r its clock reading, s its value.
 -- A message comes from party p in interaction q. The answer is its new value, the outcome and what it sends.
+-- What is done for one address is done on what the server keeps for it, its binding b.
 -- Whether it is alive, the time of its last change and the notice times are the facade's to write.
 use mathlib.Core.Bool.{Bool, true, false, not, cond}
 use mathlib.Core.List.{List}
@@ -9,22 +10,33 @@ use lib.ListN.{getD, set, replicate}
 use Rattle.types.specs.declared.Config.{Config}
 use Rattle.types.specs.declared.Reserved.{Reserved}
 use Rattle.types.specs.declared.Reserved.the-variants.{Free, Taken}
+use Rattle.types.specs.declared.Reservation.{Reservation}
 use Rattle.types.specs.declared.Pending.{Pending}
 use Rattle.types.specs.declared.Pending.the-variants.{Closed, Open}
 use Rattle.types.specs.declared.OpenWrite.{OpenWrite}
 use Rattle.types.specs.declared.Server.{Server}
+use Rattle.types.specs.declared.Binding.{Binding}
 use Rattle.types.specs.declared.Body.{Body}
 use Rattle.types.specs.declared.Body.the-variants.{Empty, Discover, Offer, Request, Renew, Write, WriteAck, Ack}
 use Rattle.types.specs.declared.Message.{Message}
 use Rattle.types.specs.declared.Outbox.{Outbox}
 use Rattle.types.specs.declared.ServerAnswer.{ServerAnswer}
+use Rattle.types.specs.declared.BindingAnswer.{BindingAnswer}
 use Rattle.rules.specs.Conditions.{_and_, _or_, all, lowest, filled}
-use Rattle.rules.specs.Parts.{noReservation, leadsAt, reservedAt, lentAt, recordAt, writeAt, withLeading, withReserved, withLease, withRecord, withWrite, message}
+use Rattle.rules.specs.Parts.{noReservation, leadsAt, recordAt, bindingAt, withLeading, withReserved, withBinding, withReservation, withLease, message}
 use Rattle.rules.specs.Order.{isFirst}
 use Rattle.rules.specs.Messages.{nothing, post, toOthers}
 
 abbrev pub answer : Server → ℕ → Outbox → ServerAnswer
 answer s n o = record { server = s; outcome = n; outbox = o }
+
+-- the same of what is kept for one address
+abbrev pub bindingAnswer : Binding → ℕ → Outbox → BindingAnswer
+bindingAnswer b n o = record { binding = b; outcome = n; outbox = o }
+
+-- the server that does so for address a
+abbrev pub atAddress : Server → ℕ → BindingAnswer → ServerAnswer
+atAddress s a x = answer (withBinding s a (x .binding)) (x .outcome) (x .outbox)
 
 -- no open write
 abbrev pub closed : OpenWrite
@@ -92,6 +104,10 @@ afterReturn r s = answer (clearedServer (s .alive) (s .changed) r (keptRecords s
 
 -- Cleanup.
 
+-- of the reservations, each below n decided anew by g
+abbrev pub reservationsBy : (Reserved → Reserved) → ℕ → List Reservation → List Reservation
+reservationsBy g n rs = filled (λ a. record { state = g ((getD rs a noReservation) .state) }) n rs
+
 -- "drops each reservation whose reading + θ < clock"
 unfoldable pub freedIfOld : Config → ℕ → Reserved → Reserved
 freedIfOld c r Free = Free
@@ -99,7 +115,7 @@ freedIfOld c r (Taken q r′) = cond (ltb (r′ + c .hold) r) Free (Taken q r′
 
 -- the server with its old reservations dropped
 unfoldable pub cleaned : Config → ℕ → Server → ServerAnswer
-cleaned c r s = answer (withReserved s (filled (λ a. record { state = freedIfOld c r (reservedAt s a) }) (c .addresses) (s .reserved))) 0 nothing
+cleaned c r s = answer (withReserved s (reservationsBy (freedIfOld c r) (c .addresses) (s .reserved))) 0 nothing
 
 -- Discover.
 
@@ -107,31 +123,32 @@ cleaned c r s = answer (withReserved s (filled (λ a. record { state = freedIfOl
 abbrev pub expirySlack : Config → ℕ
 expirySlack c = 2 * c .skew
 
--- "record + 2Δ < clock", of a record v and of the record of address a
+-- "record + 2Δ < clock", of a record v
 abbrev pub hasPassed : Config → ℕ → ℕ → Bool
 hasPassed c r v = ltb (v + expirySlack c) r
-
-unfoldable pub expired : Config → ℕ → Server → ℕ → Bool
-expired c r s a = hasPassed c r (recordAt s a)
 
 unfoldable pub isFree : Reserved → Bool
 isFree Free = true
 isFree (Taken q r) = false
 
 -- "led, not reserved, and has record + 2Δ < clock"
-unfoldable pub offerable : Config → ℕ → Server → ℕ → Bool
-offerable c r s a = leadsAt s a and isFree (reservedAt s a) and expired c r s a
+abbrev pub mayOffer : Config → ℕ → Bool → Reserved → ℕ → Bool
+mayOffer c r leads x v = leads and isFree x and hasPassed c r v
 
--- "is reserved for κ and offered. None: outcome 1."
+unfoldable pub offerable : Config → ℕ → Binding → Bool
+offerable c r b = mayOffer c r (b .leads) (b .reserved) (b .potlease)
+
+-- "is reserved for κ and offered"
+unfoldable pub offered : ℕ → ℕ → Binding → ℕ → ℕ → ℕ → BindingAnswer
+offered k r b p q a = bindingAnswer (withReservation b (Taken q r)) 0 (post nothing (message k p q (Offer a)))
+
+-- address a, if there is one. "None: outcome 1."
 unfoldable pub offers : Config → ℕ → ℕ → Server → ℕ → ℕ → ℕ → ServerAnswer
-offers c k r s p q a =
-    cond (ltb a (c .addresses))
-    (answer (withReserved s (set (s .reserved) a (record { state = Taken q r }))) 0 (post nothing (message k p q (Offer a))))
-    (answer s 1 nothing)
+offers c k r s p q a = cond (ltb a (c .addresses)) (atAddress s a (offered k r (bindingAt s a) p q a)) (answer s 1 nothing)
 
 -- "the lowest-numbered address that .."
 unfoldable pub onDiscover : Config → ℕ → ℕ → Server → ℕ → ℕ → ServerAnswer
-onDiscover c k r s p q = offers c k r s p q (lowest (offerable c r s) 0 (c .addresses))
+onDiscover c k r s p q = offers c k r s p q (lowest (λ a. offerable c r (bindingAt s a)) 0 (c .addresses))
 
 -- Request.
 
@@ -145,11 +162,19 @@ ackEnd t l = l
 
 -- address a is lent until l, and t was wanted: "record := larger of record and v; the open write becomes (κ, v, itself only);
 -- the ack with the lent end is sent, then writes (κ, address, v) to every other server"
-unfoldable pub granted : Config → ℕ → Server → ℕ → ℕ → ℕ → ℕ → ℕ → ServerAnswer
-granted c k s p q a t l =
-    answer (withLease s a l (max (recordAt s a) (writtenEnd t l)) (opened q (writtenEnd t l) (set (replicate 4 false) k true)))
+unfoldable pub granted : Config → ℕ → Binding → ℕ → ℕ → ℕ → ℕ → ℕ → BindingAnswer
+granted c k b p q a t l =
+    bindingAnswer (withLease b l (max (b .potlease) (writtenEnd t l)) (opened q (writtenEnd t l) (set (replicate 4 false) k true)))
     0
     (toOthers k (λ j. message k j q (Write a (writtenEnd t l))) (c .servers) (post nothing (message k p q (Ack a (ackEnd t l)))))
+
+-- "If led and record + 2Δ < clock"
+unfoldable pub grantable : Config → ℕ → Binding → Bool
+grantable c r b = b .leads and hasPassed c r (b .potlease)
+
+-- "lent end := clock + μ"
+unfoldable pub grants : Config → ℕ → ℕ → Binding → ℕ → ℕ → ℕ → ℕ → BindingAnswer
+grants c k r b p q a t = cond (grantable c r b) (granted c k b p q a t (r + c .mclt)) (bindingAnswer b 1 nothing)
 
 -- a reservation, free if it is one of q
 unfoldable pub freedIfOf : ℕ → Reserved → Reserved
@@ -158,28 +183,20 @@ freedIfOf q (Taken q′ r) = cond (eqb q′ q) Free (Taken q′ r)
 
 -- "reservations of κ are dropped in any case"
 unfoldable pub dropped : Config → ℕ → Server → Server
-dropped c q s = withReserved s (filled (λ a. record { state = freedIfOf q (reservedAt s a) }) (c .addresses) (s .reserved))
+dropped c q s = withReserved s (reservationsBy (freedIfOf q) (c .addresses) (s .reserved))
 
--- "If led and record + 2Δ < clock"
-unfoldable pub grantable : Config → ℕ → Server → ℕ → Bool
-grantable c r s a = leadsAt s a and expired c r s a
-
--- "lent end := clock + μ"
-unfoldable pub grants : Config → ℕ → ℕ → Server → ℕ → ℕ → ℕ → ℕ → ServerAnswer
-grants c k r s p q a t = cond (grantable c r s a) (granted c k s p q a t (r + c .mclt)) (answer s 1 nothing)
-
--- reservations of κ are dropped first
+-- they are dropped first
 unfoldable pub onRequest : Config → ℕ → ℕ → Server → ℕ → ℕ → ℕ → ℕ → ServerAnswer
-onRequest c k r s p q a t = grants c k r (dropped c q s) p q a t
+onRequest c k r s p q a t = atAddress (dropped c q s) a (grants c k r (bindingAt (dropped c q s) a) p q a t)
 
--- Renew: "if led and the old end e is at least clock: lent end := larger of clock + μ and lent end; the rest as for a request."
-unfoldable pub onRenew : Config → ℕ → ℕ → Server → ℕ → ℕ → ℕ → ℕ → ℕ → ServerAnswer
-onRenew c k r s p q a e t =
-    cond (leadsAt s a and leb r e) (granted c k s p q a t (max (r + c .mclt) (lentAt s a))) (answer s 1 nothing)
+-- Renew: "if led and the old end is at least clock: lent end := larger of clock + μ and lent end; the rest as for a request."
+unfoldable pub onRenew : Config → ℕ → ℕ → Binding → ℕ → ℕ → ℕ → ℕ → ℕ → BindingAnswer
+onRenew c k r b p q a e t =
+    cond (b .leads and leb r e) (granted c k b p q a t (max (r + c .mclt) (b .lent))) (bindingAnswer b 1 nothing)
 
 -- Write: "record := larger of record and v; a write ack (κ, address, v) returns to the sender."
-unfoldable pub onWrite : ℕ → Server → ℕ → ℕ → ℕ → ℕ → ServerAnswer
-onWrite k s p q a v = answer (withRecord s a (max (recordAt s a) v)) 0 (post nothing (message k p q (WriteAck a v)))
+unfoldable pub onWrite : ℕ → Binding → ℕ → ℕ → ℕ → ℕ → BindingAnswer
+onWrite k b p q a v = bindingAnswer (withLease b (b .lent) (max (b .potlease) v) (b .write)) 0 (post nothing (message k p q (WriteAck a v)))
 
 -- Write ack.
 
@@ -189,18 +206,18 @@ matchesWrite q v Closed = false
 matchesWrite q v (Open q′ v′) = eqb q q′ and eqb v v′
 
 -- "when all S servers are in, lent end := larger of it and v, and the write closes"
-unfoldable pub acknowledged : Config → Server → ℕ → ℕ → ℕ → List Bool → Server
-acknowledged c s q a v acked =
+unfoldable pub acknowledged : Config → Binding → ℕ → ℕ → List Bool → Binding
+acknowledged c b q v acked =
     cond (all (λ j. getD acked j false) (c .servers))
-    (withWrite s a (max (lentAt s a) v) closed)
-    (withWrite s a (lentAt s a) (opened q v acked))
+    (withLease b (max (b .lent) v) (b .potlease) closed)
+    (withLease b (b .lent) (b .potlease) (opened q v acked))
 
 -- "if led and .., the sender is added"
-unfoldable pub onWriteAck : Config → Server → ℕ → ℕ → ℕ → ℕ → ServerAnswer
-onWriteAck c s p q a v =
-    cond (leadsAt s a and matchesWrite q v ((writeAt s a) .pending))
-    (answer (acknowledged c s q a v (set ((writeAt s a) .acked) p true)) 0 nothing)
-    (answer s 1 nothing)
+unfoldable pub onWriteAck : Config → Binding → ℕ → ℕ → ℕ → BindingAnswer
+onWriteAck c b p q v =
+    cond (b .leads and matchesWrite q v (b .write .pending))
+    (bindingAnswer (acknowledged c b q v (set (b .write .acked) p true)) 0 nothing)
+    (bindingAnswer b 1 nothing)
 
 -- a message that is for a client has no condition here that is met
 unfoldable pub serverHandles : Config → ℕ → ℕ → Server → ℕ → ℕ → Body → ServerAnswer
@@ -208,9 +225,9 @@ serverHandles c k r s p q Empty = answer s 1 nothing
 serverHandles c k r s p q Discover = onDiscover c k r s p q
 serverHandles c k r s p q (Offer a) = answer s 1 nothing
 serverHandles c k r s p q (Request a t) = onRequest c k r s p q a t
-serverHandles c k r s p q (Renew a e t) = onRenew c k r s p q a e t
-serverHandles c k r s p q (Write a v) = onWrite k s p q a v
-serverHandles c k r s p q (WriteAck a v) = onWriteAck c s p q a v
+serverHandles c k r s p q (Renew a e t) = atAddress s a (onRenew c k r (bindingAt s a) p q a e t)
+serverHandles c k r s p q (Write a v) = atAddress s a (onWrite k (bindingAt s a) p q a v)
+serverHandles c k r s p q (WriteAck a v) = atAddress s a (onWriteAck c (bindingAt s a) p q v)
 serverHandles c k r s p q (Ack a e) = answer s 1 nothing
 
 -- "A dead receiver: outcome 2, nothing handled."

@@ -3,22 +3,34 @@ use mathlib.Core.Bool.{Bool, true, false, not, cond}
 use mathlib.Core.List.{List, [], _∷_}
 use Prim.Native.Nat.{ℕ, _+_, _-_, _*_}
 use lib.Dec.{leb, ltb, eqb}
-use lib.ListN.{set, replicate}
+use lib.ListN.{getD, set, replicate}
 use lib.IntN.{ℤ, pos, natAbs, _+ℤ_}
 use Rattle.types.specs.declared.Config.{Config}
 use Rattle.types.specs.declared.Server.{Server}
+use Rattle.types.specs.declared.State.{State}
+use Rattle.types.specs.declared.Client.{Client}
 use Rattle.types.specs.declared.Message.{Message}
 use Rattle.types.specs.declared.Facade.{Facade}
 use Rattle.types.specs.declared.Step.{Step}
+-- what a step says: one case for each kind, and one for every other kind
+pub use Rattle.types.specs.declared.Action.{Action}
+pub use Rattle.types.specs.declared.Action.the-variants.{Pass as pass, Fail as fail, Return as return, Notice as notice, Discover as discover, Request as request, Renew as renew, Deliver as deliver, Lose as lose, Cleanup as cleanup, Unknown as unknown}
+use Rattle.types.specs.declared.ServerEvent.{ServerEvent}
+use Rattle.types.specs.declared.ServerEvent.the-variants.{Fails, Returns, Notices, Receives, CleansUp}
+use Rattle.types.specs.declared.ClientEvent.{ClientEvent}
+use Rattle.types.specs.declared.ClientEvent.the-variants.{Discovers, Requests, Renews, Hears}
+use Rattle.types.specs.declared.Deed.{Deed}
+use Rattle.types.specs.declared.Deed.the-variants.{Rests, Passes, Serves, Asks}
 use Rattle.types.specs.declared.Answer.{Answer}
 use Rattle.types.specs.declared.ServerAnswer.{ServerAnswer}
 use Rattle.types.specs.declared.ClientAnswer.{ClientAnswer}
 use Rattle.rules.specs.Conditions.{_and_, _or_, within, unless, all, counted, filled}
-use Rattle.rules.specs.Clock.{notNegative, signed}
+use Rattle.rules.specs.Clock.{plus, notNegative, signed}
 use Rattle.rules.specs.Parts.{serverAt, stateAt, messageAt, offsetAt, noticeIn, clock, clientParty, parties, inState, noClient, noMessage, withLife, withServer, withNotices, withClient, withClients, withTime, withNext}
+use Rattle.rules.specs.Views.{offsetIn, View, whole}
 use Rattle.rules.specs.Ranges.{configInRange, inRange, endInRange, isServer, lastTime, lastInteraction, mostWaiting}
-use Rattle.rules.specs.Messages.{sendAll, without}
-use Rattle.rules.specs.Server.{noticed, clearedServer, afterReturn, cleaned, serverReceives}
+use Rattle.rules.specs.Messages.{nothing, sendAll, without}
+use Rattle.rules.specs.Server.{answer, noticed, clearedServer, afterReturn, cleaned, serverReceives}
 use Rattle.rules.specs.Client.{isOffered, isHolding, lapsed, discovers, requests, renews, clientReceives}
 
 -- Fresh: "time 0, clocks exact, all alive with c and return reading 0, everyone believed live, notice times 0,
@@ -39,21 +51,6 @@ fresh c = record {
   messages = replicate 128 noMessage;
   waiting = 0;
 }
-
--- What a step says.
-
-pub data Action : Type 0 where
-  pass : ℕ → ℕ → ℤ → Action
-  fail : ℕ → Action
-  return : ℕ → Action
-  notice : ℕ → ℕ → ℕ → Action
-  discover : ℕ → Action
-  request : ℕ → ℕ → Action
-  renew : ℕ → ℕ → Action
-  deliver : ℕ → ℕ → Action
-  lose : ℕ → Action
-  cleanup : ℕ → Action
-  unknown : Action
 
 -- "The kind number decides the step; fields follow in the order shown."
 unfoldable pub action : Step → Action
@@ -101,33 +98,33 @@ fieldsInRange (cleanup k) = true
 fieldsInRange unknown = true
 
 -- Refusal 6. "A named party, server, client or position does not exist, or a notice is about its own receiver."
-unfoldable pub exists : Facade → Action → Bool
-exists f (pass d p e) = ltb p (parties (f .config))
-exists f (fail k) = isServer (f .config) k
-exists f (return k) = isServer (f .config) k
-exists f (notice k j says) = isServer (f .config) k and isServer (f .config) j and not (eqb j k)
-exists f (discover i) = ltb i (f .config .clients)
-exists f (request i t) = ltb i (f .config .clients)
-exists f (renew i t) = ltb i (f .config .clients)
-exists f (deliver p keep) = ltb p (f .waiting)
-exists f (lose p) = ltb p (f .waiting)
-exists f (cleanup k) = isServer (f .config) k
-exists f unknown = true
+unfoldable pub exists : View → Action → Bool
+exists v (pass d p e) = ltb p (parties (v .world .config))
+exists v (fail k) = isServer (v .world .config) k
+exists v (return k) = isServer (v .world .config) k
+exists v (notice k j says) = isServer (v .world .config) k and isServer (v .world .config) j and not (eqb j k)
+exists v (discover i) = ltb i (v .world .config .clients)
+exists v (request i t) = ltb i (v .world .config .clients)
+exists v (renew i t) = ltb i (v .world .config .clients)
+exists v (deliver p keep) = ltb p (v .world .waiting)
+exists v (lose p) = ltb p (v .world .waiting)
+exists v (cleanup k) = isServer (v .world .config) k
+exists v unknown = true
 
 -- Refusal 7. "The named party is in the wrong state: fail, notice or cleanup of a dead server, return of a live one,
 -- discover by a holding client, request by one not offered, renew by one not holding."
-unfoldable pub stateAllows : Facade → Action → Bool
-stateAllows f (pass d p e) = true
-stateAllows f (fail k) = (serverAt f k) .alive
-stateAllows f (return k) = not ((serverAt f k) .alive)
-stateAllows f (notice k j says) = (serverAt f k) .alive
-stateAllows f (discover i) = not (isHolding (stateAt f i))
-stateAllows f (request i t) = isOffered (stateAt f i)
-stateAllows f (renew i t) = isHolding (stateAt f i)
-stateAllows f (deliver p keep) = true
-stateAllows f (lose p) = true
-stateAllows f (cleanup k) = (serverAt f k) .alive
-stateAllows f unknown = true
+unfoldable pub stateAllows : View → Action → Bool
+stateAllows v (pass d p e) = true
+stateAllows v (fail k) = v .alive k
+stateAllows v (return k) = not (v .alive k)
+stateAllows v (notice k j says) = v .alive k
+stateAllows v (discover i) = not (isHolding (v .state i))
+stateAllows v (request i t) = isOffered (v .state i)
+stateAllows v (renew i t) = isHolding (v .state i)
+stateAllows v (deliver p keep) = true
+stateAllows v (lose p) = true
+stateAllows v (cleanup k) = v .alive k
+stateAllows v unknown = true
 
 -- a test of a pass alone
 unfoldable pub ofPass : (ℕ → ℕ → ℤ → Bool) → Action → Bool
@@ -144,15 +141,15 @@ ofPass g (cleanup k) = true
 ofPass g unknown = true
 
 -- Refusal 8. "True time would pass 1,000,000,000."
-unfoldable pub timeLeft : Facade → ℕ → ℕ → ℤ → Bool
-timeLeft f d p e = leb (f .time + d) lastTime
+unfoldable pub timeLeft : View → ℕ → ℕ → ℤ → Bool
+timeLeft v d p e = leb (v .world .time + d) lastTime
 
 -- Refusal 9. "A clock would go back (d+e below 0) or be off by more than Δ." The clock is ahead by o.
 abbrev pub offsetAllows : Config → ℤ → ℕ → ℤ → Bool
 offsetAllows c o d e = notNegative d e and leb (natAbs (o +ℤ e)) (c .skew)
 
-unfoldable pub clockAllows : Facade → ℕ → ℕ → ℤ → Bool
-clockAllows f d p e = offsetAllows (f .config) (offsetAt f p) d e
+unfoldable pub clockAllows : View → ℕ → ℕ → ℤ → Bool
+clockAllows v d p e = offsetAllows (v .world .config) (offsetIn (v .world) p) d e
 
 -- Refusal 10. "A pass would leave a live server more than ν without a notice about another." By the notice times ts and the true time t
 -- after it, server k had a notice about server j within ν, or is that server.
@@ -163,16 +160,16 @@ hasHeard c ts t k j = eqb j k or leb t (noticeIn ts k j + c .silence)
 abbrev pub isInTouch : Config → List ℕ → ℕ → ℕ → Bool → Bool
 isInTouch c ts t k alive = not alive or all (hasHeard c ts t k) (c .servers)
 
-unfoldable pub inTouch : Facade → ℕ → ℕ → ℤ → Bool
-inTouch f d p e = all (λ k. isInTouch (f .config) (f .notices) (f .time + d) k ((serverAt f k) .alive)) (f .config .servers)
+unfoldable pub inTouch : View → ℕ → ℕ → ℤ → Bool
+inTouch v d p e = all (λ k. isInTouch (v .world .config) (v .world .notices) (v .world .time + d) k (v .alive k)) (v .world .config .servers)
 
 -- Refusal 11. "A dead notice about a server alive for ν or more since c, or an alive notice about one dead for ν or more." True
 -- time is t, and the server is alive or not since `changed`.
 abbrev pub isSo : Config → ℕ → Bool → ℕ → ℕ → Bool
 isSo c t alive changed says = cond (eqb says 1) alive (not alive) or ltb t (changed + c .silence)
 
-unfoldable pub isCredible : Facade → ℕ → ℕ → Bool
-isCredible f j says = isSo (f .config) (f .time) ((serverAt f j) .alive) ((serverAt f j) .changed) says
+unfoldable pub isCredible : View → ℕ → ℕ → Bool
+isCredible v j says = isSo (v .world .config) (v .world .time) (v .alive j) (v .changed j) says
 
 -- a test of a notice alone
 unfoldable pub ofNotice : (ℕ → ℕ → Bool) → Action → Bool
@@ -189,18 +186,18 @@ ofNotice g (cleanup k) = true
 ofNotice g unknown = true
 
 -- Refusal 12. "A new κ would be above 1,000,000."
-unfoldable pub interactionLeft : Facade → Action → Bool
-interactionLeft f (pass d p e) = true
-interactionLeft f (fail k) = true
-interactionLeft f (return k) = true
-interactionLeft f (notice k j says) = true
-interactionLeft f (discover i) = leb (f .next) lastInteraction
-interactionLeft f (request i t) = true
-interactionLeft f (renew i t) = leb (f .next) lastInteraction
-interactionLeft f (deliver p keep) = true
-interactionLeft f (lose p) = true
-interactionLeft f (cleanup k) = true
-interactionLeft f unknown = true
+unfoldable pub interactionLeft : View → Action → Bool
+interactionLeft v (pass d p e) = true
+interactionLeft v (fail k) = true
+interactionLeft v (return k) = true
+interactionLeft v (notice k j says) = true
+interactionLeft v (discover i) = leb (v .world .next) lastInteraction
+interactionLeft v (request i t) = true
+interactionLeft v (renew i t) = leb (v .world .next) lastInteraction
+interactionLeft v (deliver p keep) = true
+interactionLeft v (lose p) = true
+interactionLeft v (cleanup k) = true
+interactionLeft v unknown = true
 
 -- The effects.
 
@@ -211,6 +208,106 @@ accepted f n = record { refusal = 0; outcome = n; facade = f }
 abbrev pub refused : Facade → ℕ → Answer
 refused f n = record { refusal = n; outcome = 0; facade = f }
 
+-- Step 1. "true time goes up by d .. and every clock by d, but that party's by d+e .."
+abbrev pub moved : Facade → ℕ → ℕ → ℤ → Facade
+moved f d p e = withTime f (f .time + d) (set (f .offsets) p (offsetAt f p +ℤ e))
+
+-- "A client holding an end not above its clock becomes idle." True time is t, the offsets are os and the clients ys.
+unfoldable pub lapsedAt : Config → ℕ → List ℤ → List Client → ℕ → Client
+lapsedAt c t os ys i = inState (lapsed (plus t (getD os (clientParty c i) (pos 0))) ((getD ys i noClient) .state))
+
+unfoldable pub ended : Config → ℕ → List ℤ → List Client → List Client
+ended c t os ys = filled (lapsedAt c t os ys) (c .clients) ys
+
+unfoldable pub lapse : Facade → Facade
+lapse f = withClients f (ended (f .config) (f .time) (f .offsets) (f .clients))
+
+-- Steps 2, 3, 4 and 10, and a message that comes: server k at true time t, whose clock reads r. Whether it is alive and since when is
+-- written here, and all else by what the server itself does.
+unfoldable pub serverAfter : Config → ℕ → ℕ → ℕ → Server → ServerEvent → ServerAnswer
+-- "it is dead, c is now"
+serverAfter c t k r s Fails = answer (withLife s false t) 0 nothing
+-- "alive, c is now, .."
+serverAfter c t k r s Returns = answer (withLife ((afterReturn r s) .server) true t) 0 nothing
+serverAfter c t k r s (Notices j says) = noticed c k r s j says
+serverAfter c t k r s (Receives m) = serverReceives c k r s m
+serverAfter c t k r s CleansUp = cleaned c r s
+
+-- the row of receiver k, all set to t
+unfoldable pub rowNow : List ℕ → ℕ → ℕ → List ℕ
+rowNow ts k t = set (set (set (set ts (k * 4) t) (k * 4 + 1) t) (k * 4 + 2) t) (k * 4 + 3) t
+
+-- the notice times after it: "its notice times are now" of a return, "notice time is now" of a notice
+unfoldable pub noticesAfter : List ℕ → ℕ → ℕ → ServerEvent → List ℕ
+noticesAfter ts t k Fails = ts
+noticesAfter ts t k Returns = rowNow ts k t
+noticesAfter ts t k (Notices j says) = set ts (k * 4 + j) t
+noticesAfter ts t k (Receives m) = ts
+noticesAfter ts t k CleansUp = ts
+
+-- Steps 5, 6 and 7, and a message that comes: client i, whose clock reads r, where n is the next κ
+unfoldable pub clientAfter : Config → ℕ → ℕ → ℕ → State → ClientEvent → ClientAnswer
+clientAfter c n i r x Discovers = discovers c i x n
+clientAfter c n i r x (Requests t) = requests c i x t
+clientAfter c n i r x (Renews t) = renews c i x t n
+clientAfter c n i r x (Hears m) = clientReceives r x m
+
+-- the next κ after it: it "goes up by one at each discover or renew step"
+unfoldable pub nextAfter : ℕ → ClientEvent → ℕ
+nextAfter n Discovers = n + 1
+nextAfter n (Requests t) = n
+nextAfter n (Renews t) = n + 1
+nextAfter n (Hears m) = n
+
+-- Step 8. The message m "is handled" by the party that it is for.
+unfoldable pub delivered : Config → Message → Deed
+delivered c m = cond (isServer c (m .receiver)) (Serves (m .receiver) (Receives m)) (Asks (m .receiver - c .servers) (Hears m))
+
+-- what happens in a step, where m is the message at the position that it names; a step that names none does not look at it
+unfoldable pub deed : Config → Message → Action → Deed
+deed c m (pass d p e) = Passes d p e
+deed c m (fail k) = Serves k Fails
+deed c m (return k) = Serves k Returns
+deed c m (notice k j says) = Serves k (Notices j says)
+deed c m (discover i) = Asks i Discovers
+deed c m (request i t) = Asks i (Requests t)
+deed c m (renew i t) = Asks i (Renews t)
+deed c m (deliver p keep) = delivered c m
+deed c m (lose p) = Rests
+deed c m (cleanup k) = Serves k CleansUp
+deed c m unknown = Rests
+
+-- the position of a message that a step names
+unfoldable pub position : Action → ℕ
+position (pass d p e) = 0
+position (fail k) = 0
+position (return k) = 0
+position (notice k j says) = 0
+position (discover i) = 0
+position (request i t) = 0
+position (renew i t) = 0
+position (deliver p keep) = p
+position (lose p) = p
+position (cleanup k) = 0
+position unknown = 0
+
+-- whether that message is taken out. Step 8: "if keep is 0 the message is taken out first". Step 9, lose, does nothing else.
+unfoldable pub takes : Action → Bool
+takes (pass d p e) = false
+takes (fail k) = false
+takes (return k) = false
+takes (notice k j says) = false
+takes (discover i) = false
+takes (request i t) = false
+takes (renew i t) = false
+takes (deliver p keep) = eqb keep 0
+takes (lose p) = true
+takes (cleanup k) = false
+takes unknown = false
+
+unfoldable pub takenOut : Facade → Action → Facade
+takenOut f x = cond (takes x) (without f (position x)) f
+
 -- server k is as it answered, and what it sends waits
 abbrev pub serverActs : Facade → ℕ → ServerAnswer → Answer
 serverActs f k x = accepted (sendAll (withServer f k (x .server)) (x .outbox)) (x .outcome)
@@ -219,68 +316,50 @@ serverActs f k x = accepted (sendAll (withServer f k (x .server)) (x .outbox)) (
 abbrev pub clientActs : Facade → ℕ → ClientAnswer → Answer
 clientActs f i x = accepted (sendAll (withClient f i (x .client)) (x .outbox)) (x .outcome)
 
--- Step 1. "true time goes up by d and every clock by d, but that party's by d+e"
-abbrev pub moved : Facade → ℕ → ℕ → ℤ → Facade
-moved f d p e = withTime f (f .time + d) (set (f .offsets) p (offsetAt f p +ℤ e))
-
--- "A client holding an end not above its clock becomes idle."
-unfoldable pub lapse : Facade → Facade
-lapse f = withClients f (filled (λ i. inState (lapsed (clock f (clientParty (f .config) i)) (stateAt f i))) (f .config .clients) (f .clients))
-
--- Step 3. "its notice times are now": the row of receiver k
-unfoldable pub rowNow : List ℕ → ℕ → ℕ → List ℕ
-rowNow ts k t = set (set (set (set ts (k * 4) t) (k * 4 + 1) t) (k * 4 + 2) t) (k * 4 + 3) t
-
--- Step 8. "if keep is 0 the message is taken out first"
-unfoldable pub takenOut : Facade → ℕ → ℕ → Facade
-takenOut f p keep = cond (eqb keep 0) (without f p) f
-
--- "then it is handled"
-unfoldable pub handled : Facade → Message → Answer
-handled f m =
-    cond (isServer (f .config) (m .receiver))
-    (serverActs f (m .receiver) (serverReceives (f .config) (m .receiver) (clock f (m .receiver)) (serverAt f (m .receiver)) m))
-    (clientActs f (m .receiver - f .config .servers) (clientReceives (clock f (m .receiver)) (stateAt f (m .receiver - f .config .servers)) m))
+-- what happens in a facade
+unfoldable pub enacted : Facade → Deed → Answer
+enacted f Rests = accepted f 0
+enacted f (Passes d p e) = accepted (lapse (moved f d p e)) 0
+enacted f (Serves k e) =
+    serverActs (withNotices f (noticesAfter (f .notices) (f .time) k e)) k (serverAfter (f .config) (f .time) k (clock f k) (serverAt f k) e)
+enacted f (Asks i e) =
+    clientActs (withNext f (nextAfter (f .next) e)) i (clientAfter (f .config) (f .next) i (clock f (clientParty (f .config) i)) (stateAt f i) e)
 
 -- the facade and the outcome of a step that is not refused
 unfoldable pub effect : Facade → Action → Answer
-effect f (pass d p e) = accepted (lapse (moved f d p e)) 0
-effect f (fail k) = accepted (withServer f k (withLife (serverAt f k) false (f .time))) 0
-effect f (return k) =
-    accepted
-    (withNotices
-    (withServer f k (withLife ((afterReturn (clock f k) (serverAt f k)) .server) true (f .time)))
-    (rowNow (f .notices) k (f .time)))
-    0
-effect f (notice k j says) =
-    serverActs (withNotices f (set (f .notices) (k * 4 + j) (f .time))) k (noticed (f .config) k (clock f k) (serverAt f k) j says)
-effect f (discover i) = clientActs (withNext f (f .next + 1)) i (discovers (f .config) i (stateAt f i) (f .next))
-effect f (request i t) = clientActs f i (requests (f .config) i (stateAt f i) t)
-effect f (renew i t) = clientActs (withNext f (f .next + 1)) i (renews (f .config) i (stateAt f i) t (f .next))
-effect f (deliver p keep) = handled (takenOut f p keep) (messageAt f p)
-effect f (lose p) = accepted (without f p) 0
-effect f (cleanup k) = serverActs f k (cleaned (f .config) (clock f k) (serverAt f k))
-effect f unknown = accepted f 0
+effect f x = enacted (takenOut f x) (deed (f .config) (messageAt f (position x)) x)
 
 -- Refusal 13. "More than 128 messages would wait afterwards."
-unfoldable pub roomLeft : Facade → Action → Bool
-roomLeft f x = leb ((effect f x) .facade .waiting) mostWaiting
+abbrev pub hasRoom : Facade → Bool
+hasRoom f = leb (f .waiting) mostWaiting
 
--- "Refusal list, checked from the top": the number of the first rule that is broken, or 0
+unfoldable pub roomLeft : Facade → Action → Bool
+roomLeft f x = hasRoom ((effect f x) .facade)
+
+-- "Refusal list, checked from the top": the number of the first rule that is broken, or what the rules below give. Rules 4 and 5, which a
+-- step alone can break:
+unfoldable pub malformed : Action → ℕ → ℕ
+malformed x below = unless (isKnown x) 4 (unless (fieldsInRange x) 5 below)
+
+-- rules 6 to 12, which look at a view:
+unfoldable pub barred : View → Action → ℕ → ℕ
+barred v x below =
+    unless (exists v x) 6
+    (unless (stateAllows v x) 7
+    (unless (ofPass (timeLeft v) x) 8
+    (unless (ofPass (clockAllows v) x) 9
+    (unless (ofPass (inTouch v) x) 10
+    (unless (ofNotice (isCredible v) x) 11
+    (unless (interactionLeft v x) 12
+    below))))))
+
+-- rules 4 to 12:
+unfoldable pub broken : View → Action → ℕ → ℕ
+broken v x below = malformed x (barred v x below)
+
+-- the number of the first rule that is broken, or 0
 unfoldable pub refusal : Facade → Action → ℕ
-refusal f x =
-    unless (inRange f) 2
-    (unless (isKnown x) 4
-    (unless (fieldsInRange x) 5
-    (unless (exists f x) 6
-    (unless (stateAllows f x) 7
-    (unless (ofPass (timeLeft f) x) 8
-    (unless (ofPass (clockAllows f) x) 9
-    (unless (ofPass (inTouch f) x) 10
-    (unless (ofNotice (isCredible f) x) 11
-    (unless (interactionLeft f x) 12
-    (unless (roomLeft f x) 13
-    0))))))))))
+refusal f x = unless (inRange f) 2 (broken (whole f) x (unless (roomLeft f x) 13 0))
 
 -- refused with the first number, or accepted with its effect
 unfoldable pub answerTo : Facade → Action → Answer
@@ -299,6 +378,9 @@ run f (s ∷ ss) = run ((step f s) .facade) ss
 unfoldable pub start : Config → Answer
 start c = record { refusal = unless (configInRange c) 2 0; outcome = 0; facade = fresh c }
 
--- "how many clients hold"
-unfoldable pub heldClients : Facade → ℕ
-heldClients f = counted (λ i. ltb i (f .config .clients) and isHolding (stateAt f i)) 32
+-- "how many clients hold", of the clients ys
+unfoldable pub heldAmong : Config → List Client → ℕ
+heldAmong c ys = counted (λ i. ltb i (c .clients) and isHolding ((getD ys i noClient) .state)) 32
+
+abbrev pub heldClients : Facade → ℕ
+heldClients f = heldAmong (f .config) (f .clients)

@@ -12,7 +12,7 @@ use lib.ListN.{length, getD, take, drop, length-append, length-drop, take-append
 use lib.Seq.{getD-drop, drop-drop, drop-cons, take-at, length-take-le}
 use Rattle.types.specs.declared.Step.{Step}
 use Rattle.rules.specs.Conditions.{_and_, _or_}
-use Rattle.rules.specs.Steps.{action, isKnown}
+use Rattle.rules.specs.Steps.{action, isKnown, malformed}
 use Rattle.rules.proofs.Laws.{and-l, and-r, or-elim, unless-ok}
 use Rattle.wire.specs.Numbers.{bytesOf}
 use Rattle.wire.proofs.Numbers.{number-front}
@@ -86,7 +86,7 @@ module _ (s : Step) (w : InWords s) where
       rw (lt-ltb 0 (length (behind s)) (omega (arith, behind-length s)), eq-eqb _ _ (behind-length s)) (or-true _)
 
   behind-decoded : decoded (behind s) ≡ record { refusal = stepRefusal s; step = canonical s }
-  unfolding decoded stepRefusal
+  unfolding decoded malformed
   behind-decoded = rw (behind-framed, behind-read, action-canonical s)
 
 -- The record at a place of a script.
@@ -158,7 +158,7 @@ module _ (r : List ℕ) (h : Bytes r) (ok : (decoded r) .refusal ≡ 0) where
   in-range = rw (framed .1) at ok
 
   known : T (isKnown (action (stepIn r)))
-  unfolding stepRefusal
+  unfolding malformed
   known = (unless-ok _ 4 _ (omega arith) in-range) .0
 
   decoded-written : (recordOf ((decoded r) .step) ≡ length r ∷ r) × (stepRefusal ((decoded r) .step) ≡ 0)

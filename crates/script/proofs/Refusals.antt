@@ -1,22 +1,21 @@
 -- The refusals 4 and 5 of a script's steps are those of the facade's.
-use mathlib.Core.Path.{_≡_, refl, sym, ap, _∙_}
+use mathlib.Core.Path.{_≡_, refl, sym}
 use mathlib.Core.Bool.{Bool, true, false}
 use mathlib.Core.List.{List}
 use Prim.Native.Nat.{ℕ, suc, _<_}
 use native.Mathlib.Omega.{arith}
 use lib.Dec.{T, eqb}
-use Rattle.types.specs.declared.Message.{Message}
+use Rattle.types.specs.declared.Deed.{Deed}
+use Rattle.types.specs.declared.Deed.the-variants.{Rests, Passes, Serves, Asks}
 use Rattle.types.specs.declared.Facade.{Facade}
 use Rattle.types.specs.declared.Step.{Step}
 use Rattle.types.specs.declared.Answer.{Answer}
 use Rattle.rules.specs.Conditions.{unless}
-use Rattle.rules.specs.Parts.{messageAt}
-use Rattle.rules.specs.Ranges.{isServer, inRange}
-use Rattle.rules.specs.Steps.{Action, pass, fail, return, notice, discover, request, renew, deliver, lose, cleanup, unknown, takenOut, handled, effect}
-use Rattle.rules.specs.Steps.{isKnown, fieldsInRange, exists, stateAllows, ofPass, timeLeft, clockAllows, inTouch, ofNotice, isCredible, interactionLeft, roomLeft}
-use Rattle.rules.specs.Steps.{action, refused, refusal, answerTo, step}
+use Rattle.rules.specs.Ranges.{inRange}
+use Rattle.rules.specs.Views.{whole}
+use Rattle.rules.specs.Steps.{Action, action, isKnown, fieldsInRange, exists, stateAllows, ofPass, timeLeft, clockAllows, inTouch, ofNotice, isCredible, interactionLeft, malformed, barred, broken, enacted, effect, roomLeft, refused, refusal, answerTo, step}
 use Rattle.rules.proofs.Laws.{true-of, cond-case, unless-ok}
-use Rattle.rules.proofs.Refusals.{refused-4, refused-5}
+use Rattle.rules.proofs.Refusals.{first-malformed, refused-first}
 use Rattle.script.specs.declared.Decoded.{Decoded}
 use Rattle.script.specs.declared.Record.{Record}
 use Rattle.script.specs.Layout.{stepRefusal}
@@ -31,39 +30,32 @@ unfolding unless
 other-below true n h q = q
 other-below false n h q = omega arith
 
-handled-accepted : (f : Facade) (m : Message) → (handled f m) .refusal ≡ 0
-unfolding handled
-handled-accepted f m = cond-case (λ (a : Answer). a .refusal ≡ 0) (isServer (f .config) (m .receiver)) _ _ (λ t. refl) (λ t. refl)
+enacted-accepted : (f : Facade) (d : Deed) → (enacted f d) .refusal ≡ 0
+unfolding enacted
+enacted-accepted f Rests = refl
+enacted-accepted f (Passes d p e) = refl
+enacted-accepted f (Serves k e) = refl
+enacted-accepted f (Asks i e) = refl
 
 effect-accepted : (f : Facade) (x : Action) → (effect f x) .refusal ≡ 0
 unfolding effect
-effect-accepted f (pass d p e) = refl
-effect-accepted f (fail k) = refl
-effect-accepted f (return k) = refl
-effect-accepted f (notice k j says) = refl
-effect-accepted f (discover i) = refl
-effect-accepted f (request i t) = refl
-effect-accepted f (renew i t) = refl
-effect-accepted f (deliver p keep) = handled-accepted (takenOut f p keep) (messageAt f p)
-effect-accepted f (lose p) = refl
-effect-accepted f (cleanup k) = refl
-effect-accepted f unknown = refl
+effect-accepted f x = enacted-accepted _ _
 
 module _ (f : Facade) (s : Step) (t : T (inRange f)) where
   other-refusal : stepRefusal s ≡ 0 → Other (refusal f (action s))
-  unfolding stepRefusal refusal unless
+  unfolding refusal broken malformed barred unless
   other-refusal e =
       let x = action s in
       let k = unless-ok (isKnown x) 4 _ (omega arith) e in
       let r = unless-ok (fieldsInRange x) 5 _ (omega arith) (k .1) in
       rw (true-of (inRange f) t, true-of (isKnown x) (k .0), true-of (fieldsInRange x) (r .0))
-      (other-below (exists f x) 6 (omega arith)
-      (other-below (stateAllows f x) 7 (omega arith)
-      (other-below (ofPass (timeLeft f) x) 8 (omega arith)
-      (other-below (ofPass (clockAllows f) x) 9 (omega arith)
-      (other-below (ofPass (inTouch f) x) 10 (omega arith)
-      (other-below (ofNotice (isCredible f) x) 11 (omega arith)
-      (other-below (interactionLeft f x) 12 (omega arith)
+      (other-below (exists (whole f) x) 6 (omega arith)
+      (other-below (stateAllows (whole f) x) 7 (omega arith)
+      (other-below (ofPass (timeLeft (whole f)) x) 8 (omega arith)
+      (other-below (ofPass (clockAllows (whole f)) x) 9 (omega arith)
+      (other-below (ofPass (inTouch (whole f)) x) 10 (omega arith)
+      (other-below (ofNotice (isCredible (whole f)) x) 11 (omega arith)
+      (other-below (interactionLeft (whole f) x) 12 (omega arith)
       (other-below (roomLeft f x) 13 (omega arith) (omega arith)))))))))
 
   other-answer : stepRefusal s ≡ 0 → Other ((step f s) .refusal)
@@ -73,17 +65,13 @@ module _ (f : Facade) (s : Step) (t : T (inRange f)) where
       cond-case (λ (a : Answer). Other (a .refusal)) (eqb (refusal f x) 0) (effect f x) (refused f (refusal f x))
       (λ t. rw (effect-accepted f x) (omega arith)) (λ t. other-refusal e)
 
-  refused-go : (n : ℕ) (a b : Bool) → isKnown (action s) ≡ a → fieldsInRange (action s) ≡ b → unless a 4 (unless b 5 0) ≡ suc n
-      → step f s ≡ refused f (suc n)
-  unfolding step unless
-  refused-go n false b p q e = sym (refused-4 f (action s) (true-of (inRange f) t) p) ∙ ap (refused f) e
-  refused-go n true false p q e = sym (refused-5 f (action s) (true-of (inRange f) t) p q) ∙ ap (refused f) e
-  refused-go n true true p q e = absurd (omega arith)
-
   -- A step that a script may hold is not refused with 4 or 5, and one that it may not is refused with the number that reading gives.
   pub same-refusal : (stepRefusal s ≡ 0 → Other ((step f s) .refusal)) × ((n : ℕ) → stepRefusal s ≡ suc n → step f s ≡ refused f (suc n))
-  unfolding stepRefusal
-  same-refusal = (other-answer, λ n e. refused-go n (isKnown (action s)) (fieldsInRange (action s)) refl refl e)
+  unfolding step
+  same-refusal = (
+    other-answer,
+    λ n e. let nz : suc n ≡ 0 → ⊥ = λ h. omega (arith, h) in sym (refused-first f (action s) t (suc n) (first-malformed (whole f) (action s) (suc n) (sym e) nz) nz),
+  )
 
 -- The step that reading hands on has the refusal that reading gives, unless that is 3.
 decoded-refusal : (r : List ℕ) → ((decoded r) .refusal ≡ 3 → ⊥) → (decoded r) .refusal ≡ stepRefusal ((decoded r) .step)

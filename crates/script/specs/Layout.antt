@@ -5,8 +5,7 @@ use Prim.Native.Nat.{ℕ, _+_, _*_}
 use lib.ListN.{take}
 use Rattle.types.specs.declared.Config.{Config}
 use Rattle.types.specs.declared.Step.{Step}
-use Rattle.rules.specs.Conditions.{unless}
-use Rattle.rules.specs.Steps.{Action, pass, fail, return, notice, discover, request, renew, deliver, lose, cleanup, unknown, action, isKnown, fieldsInRange}
+use Rattle.rules.specs.Steps.{Action, pass, fail, return, notice, discover, request, renew, deliver, lose, cleanup, unknown, action, malformed}
 use Rattle.wire.specs.Numbers.{bytesOf}
 
 -- how many fields a step has
@@ -34,9 +33,9 @@ fieldsOf k = fieldCount (action (stepOf k 0 0 0))
 abbrev pub lengthOf : ℕ → ℕ
 lengthOf k = 1 + 4 * fieldsOf k
 
--- Refusals 4 and 5, the ones that a step alone can meet: those of `refusal`.
-unfoldable pub stepRefusal : Step → ℕ
-stepRefusal s = unless (isKnown (action s)) 4 (unless (fieldsInRange (action s)) 5 0)
+-- refusals 4 and 5, the ones that a step alone can meet
+abbrev pub stepRefusal : Step → ℕ
+stepRefusal s = malformed (action s) 0
 
 -- the version byte and the seven numbers
 unfoldable pub headerOf : Config → List ℕ

@@ -1,8 +1,8 @@
 // A script read: its header, its records one by one, and the verdict on the whole.
 use arith::either;
 use ranges::config_in_range;
-use ranges::fields_in_range;
-use ranges::is_known_kind;
+use steps::action_of;
+use steps::malformed;
 use types::Config;
 use types::Step;
 use wire::number_at;
@@ -123,13 +123,7 @@ pub fn field_count(kind: u32) -> u32
 pub fn step_refusal(s: Step) -> u32
     ensures { λ n. ⌜ n ≡ refusalOf s ⌝ }
 {
-    if !is_known_kind(s) {
-        return 4;
-    }
-    if !fields_in_range(s) {
-        return 5;
-    }
-    0
+    malformed(action_of(s))
 }
 
 // Field i of a record of n fields.

@@ -1,9 +1,15 @@
 // What is sealed in: a server's notices, return and cleanup, and the messages that it handles.
 // c is the configuration, k the server's number, r its clock reading, s its value. A server knows no facade and no true time.
+use leading::leads_after;
+use leading::next_server;
+use leading::record_after;
+use lending::drop_reservations;
 use lending::on_discover;
 use lending::on_renew;
 use lending::on_request;
 use outbox::nothing;
+use types::Binding;
+use types::BindingAnswer;
 use types::Body;
 use types::Config;
 use types::Message;
@@ -19,15 +25,38 @@ ghost use Prim.Native.Nat.{_≤_, _<_};
 ghost use lib.Dec.{T};
 ghost use Rattle.rules.specs.Ranges.{bodyInRange};
 ghost use Rattle.rules.specs.Messages.{nothing as nothingSent};
-ghost use Rattle.rules.specs.Server.{answer, noticed as afterNotice, clearedServer, afterReturn, freedIfOld, cleaned, serverHandles, serverReceives};
+ghost use Rattle.rules.specs.Server.{answer, bindingAnswer, noticed as afterNotice, clearedServer, afterReturn, reservationsBy, freedIfOld, cleaned, serverReceives};
 ghost use Rattle.rules.proofs.Kept.{Configured};
+ghost use Rattle.server.specs.Bodies.{isRequest, addressIn, handledAt};
 
-// A notice: server `about` is dead (0) or alive (1).
+// A notice: server `about` is dead (0) or alive (1). For each address it is decided anew whether the server leads it.
 pub fn notice(c: Config, k: u32, r: u32, s: Server, about: u32, says: u32) -> ServerAnswer
     requires { ⌜ Configured c × (k < c .servers) × (r ≤ 1000001000) × (about < c .servers) ⌝ }
     ensures { λ x. ⌜ x ≡ afterNotice c k r s about says ⌝ }
 {
-    leading::noticed(c, k, r, s, about, says)
+    let mut b = s.believed;
+    let subject = about as usize;
+    b[subject] = says == 1;
+    let mut t = s;
+    t.believed = b;
+    let n = c.addresses;
+    let mut first = 0;
+    let mut a = 0;
+    while a < n {
+        let at = a as usize;
+        let before = s.leads[at];
+        let now = leads_after(c, k, r, s.returned, before, b, first);
+        t.leads[at] = now;
+        t.potlease[at] = record_after(c, r, before, now, s.potlease[at]);
+        first = next_server(c.servers, first);
+        a += 1;
+    }
+    let none = nothing();
+    ServerAnswer {
+        server: t,
+        outcome: 0,
+        outbox: none,
+    }
 }
 
 // A server that believes everyone live, with nothing led, reserved, lent or open.
@@ -79,7 +108,6 @@ pub fn come_back(r: u32, s: Server) -> ServerAnswer
 
 // A reservation, free if its reading + θ is below the clock.
 fn freed_if_old(c: Config, r: u32, x: Reserved) -> Reserved
-    requires { ⌜ c .hold ≤ 1000000 ⌝ }
     ensures { λ y. ⌜ y ≡ freedIfOld c r x ⌝ }
 {
     match x {
@@ -94,22 +122,34 @@ fn freed_if_old(c: Config, r: u32, x: Reserved) -> Reserved
     }
 }
 
-// Old reservations are dropped.
+// Of the reservations of the addresses the old ones are dropped.
+fn drop_old(c: Config, r: u32, rs: [Reservation; 32]) -> [Reservation; 32]
+    requires { ⌜ Configured c ⌝ }
+    ensures { λ l. ⌜ l ≡ reservationsBy (freedIfOld c r) (c .addresses) rs ⌝ }
+{
+    let n = c.addresses;
+    let mut kept = rs;
+    let mut a = 0;
+    while a < n {
+        let at = a as usize;
+        let reservation = rs[at];
+        let state = reservation.state;
+        let after = freed_if_old(c, r, state);
+        kept[at] = Reservation { state: after };
+        a += 1;
+    }
+    kept
+}
+
+// The server with its old reservations dropped.
 pub fn clean_up(c: Config, r: u32, s: Server) -> ServerAnswer
     requires { ⌜ Configured c ⌝ }
     ensures { λ x. ⌜ x ≡ cleaned c r s ⌝ }
 {
-    let n = c.addresses;
+    let rs = s.reserved;
+    let kept = drop_old(c, r, rs);
     let mut t = s;
-    let mut a = 0;
-    while a < n {
-        let at = a as usize;
-        let reservation = s.reserved[at];
-        let state = reservation.state;
-        let kept = freed_if_old(c, r, state);
-        t.reserved[at] = Reservation { state: kept };
-        a += 1;
-    }
+    t.reserved = kept;
     let none = nothing();
     ServerAnswer {
         server: t,
@@ -130,31 +170,109 @@ fn unmoved(s: Server, n: u32) -> ServerAnswer
     }
 }
 
-// A message with this body from party p in interaction q, at a live server.
-fn handle(c: Config, k: u32, r: u32, s: Server, p: u32, q: u32, body: Body) -> ServerAnswer
-    requires { ⌜ Configured c × (k < c .servers) × (r ≤ 1000001000) × T (bodyInRange c p k body) ⌝ }
-    ensures { λ x. ⌜ x ≡ serverHandles c k r s p q body ⌝ }
+fn is_request(body: Body) -> bool
+    ensures { λ x. ⌜ x ≡ isRequest body ⌝ }
 {
     match body {
-        Body::Empty => unmoved(s, 1),
-        Body::Discover => on_discover(c, k, r, s, p, q),
-        Body::Offer(_) => unmoved(s, 1),
-        Body::Request(a, t) => on_request(c, k, r, s, p, q, a, t),
-        Body::Renew(a, e, t) => on_renew(c, k, r, s, p, q, a, e, t),
-        Body::Write(a, v) => on_write(k, s, p, q, a, v),
-        Body::WriteAck(a, v) => on_write_ack(c, s, p, q, a, v),
-        Body::Ack(_, _) => unmoved(s, 1),
+        Body::Empty => false,
+        Body::Discover => false,
+        Body::Offer(_) => false,
+        Body::Request(_, _) => true,
+        Body::Renew(_, _, _) => false,
+        Body::Write(_, _) => false,
+        Body::WriteAck(_, _) => false,
+        Body::Ack(_, _) => false,
+    }
+}
+
+// The address that a message names; 32, which is no address, where it names none.
+fn address_in(body: Body) -> u32
+    ensures { λ a. ⌜ a ≡ addressIn body ⌝ }
+{
+    match body {
+        Body::Empty => 32,
+        Body::Discover => 32,
+        Body::Offer(a) => a,
+        Body::Request(a, _) => a,
+        Body::Renew(a, _, _) => a,
+        Body::Write(a, _) => a,
+        Body::WriteAck(a, _) => a,
+        Body::Ack(a, _) => a,
+    }
+}
+
+// What is kept for an address as it is: a condition is not met.
+fn unmet(b: Binding) -> BindingAnswer
+    ensures { λ x. ⌜ x ≡ bindingAnswer b 1 nothingSent ⌝ }
+{
+    let none = nothing();
+    BindingAnswer {
+        binding: b,
+        outcome: 1,
+        outbox: none,
+    }
+}
+
+// A message with this body from party p in interaction q, for the address that it names.
+fn handle(c: Config, k: u32, r: u32, b: Binding, p: u32, q: u32, body: Body) -> BindingAnswer
+    requires { ⌜ Configured c × (k < c .servers) × (r ≤ 1000001000) × T (bodyInRange c p k body) ⌝ }
+    ensures { λ x. ⌜ x ≡ handledAt c k r b p q body ⌝ }
+{
+    match body {
+        Body::Empty => unmet(b),
+        Body::Discover => unmet(b),
+        Body::Offer(_) => unmet(b),
+        Body::Request(a, t) => on_request(c, k, r, b, p, q, a, t),
+        Body::Renew(a, e, t) => on_renew(c, k, r, b, p, q, a, e, t),
+        Body::Write(a, v) => on_write(k, b, p, q, a, v),
+        Body::WriteAck(_, v) => on_write_ack(c, b, p, q, v),
+        Body::Ack(_, _) => unmet(b),
     }
 }
 
 // A message that comes to the server. A dead server handles nothing.
-pub fn receive(c: Config, k: u32, r: u32, s: Server, m: Message) -> ServerAnswer
+// What is kept for the address named is read out and put back here, since a server that is handed on is copied whole.
+pub fn receive(c: Config, k: u32, r: u32, mut s: Server, m: Message) -> ServerAnswer
     requires { ⌜ Configured c × (k < c .servers) × (r ≤ 1000001000) × T (bodyInRange c (m .sender) k (m .body)) ⌝ }
     ensures { λ x. ⌜ x ≡ serverReceives c k r s m ⌝ }
 {
-    if s.alive {
-        let body = m.body;
-        return handle(c, k, r, s, m.sender, m.interaction, body);
+    let body = m.body;
+    let a = address_in(body);
+    let at = a as usize;
+    if !s.alive {
+        return unmoved(s, 2);
     }
-    unmoved(s, 2)
+    if c.addresses <= a {
+        return on_discover(c, k, r, s, m.sender, m.interaction);
+    }
+    if is_request(body) {
+        let rs = s.reserved;
+        let kept = drop_reservations(c.addresses, m.interaction, rs);
+        s.reserved = kept;
+    }
+    let reservation = s.reserved[at];
+    let state = reservation.state;
+    let w = s.writes[at];
+    let b = Binding {
+        leads: s.leads[at],
+        reserved: state,
+        lent: s.lent[at],
+        potlease: s.potlease[at],
+        write: w,
+    };
+    let x = handle(c, k, r, b, m.sender, m.interaction, body);
+    let after = x.binding;
+    let left = after.reserved;
+    let written = after.write;
+    s.leads[at] = after.leads;
+    s.reserved[at] = Reservation { state: left };
+    s.lent[at] = after.lent;
+    s.potlease[at] = after.potlease;
+    s.writes[at] = written;
+    let sent = x.outbox;
+    ServerAnswer {
+        server: s,
+        outcome: x.outcome,
+        outbox: sent,
+    }
 }

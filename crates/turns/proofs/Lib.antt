@@ -1,3 +1,4 @@
 pub mod Owed
 pub mod Lines
 pub mod Turns
+pub mod Doing

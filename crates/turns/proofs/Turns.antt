@@ -1,26 +1,27 @@
 -- The turns of the run: from the lines that are owed at a place, to what is owed or put behind it.
-use mathlib.Core.Path.{_≡_, refl, sym, _∙_}
+use mathlib.Core.Path.{_≡_, sym, _∙_}
 use mathlib.Core.Bool.{Bool, true, false}
 use mathlib.Core.List.{List, [], _++_}
 use Prim.Native.Nat.{ℕ, suc, _+_, _*_, _≤_, _<_}
 use native.Mathlib.Omega.{arith}
-use lib.Dec.{ltb}
+use lib.IntN.{ℤ}
 use lib.ListN.{length}
-use borrow.Author.Tests.{lt-ltb, le-ltb}
 use Rattle.types.specs.declared.Server.{Server}
 use Rattle.types.specs.declared.Client.{Client}
 use Rattle.types.specs.declared.Message.{Message}
+use Rattle.types.specs.declared.Config.{Config}
 use Rattle.types.specs.declared.World.{World}
 use Rattle.types.specs.declared.Facade.{Facade}
 use Rattle.types.specs.declared.Answer.{Answer}
 use Rattle.rules.specs.Ranges.{Sound}
-use Rattle.rules.specs.Steps.{step, heldClients}
-use Rattle.rules.proofs.Laws.{cond-case, length-filled}
+use Rattle.rules.specs.Views.{worldOf}
+use Rattle.rules.specs.Steps.{Action, action, malformed, ended, step, heldAmong, heldClients}
+use Rattle.rules.proofs.Laws.{length-filled}
 use Rattle.rules.proofs.Ranges.{step-sound}
-use Rattle.world.specs.Apart.{worldOf, facadeOf, ended, holdsAfter}
-use Rattle.facade.specs.Held.{heldAmong}
+use Rattle.world.specs.Apart.{facadeOf}
 use Rattle.script.specs.Reading.{longest, recordAt}
 use Rattle.script.specs.declared.Record.{Record}
+use Rattle.script.proofs.Refusals.{record-refusal}
 use Rattle.report.specs.Lines.{recordLine, heldLine}
 use Rattle.wire.specs.Numbers.{over}
 use Rattle.wire.proofs.Over.{over-length}
@@ -33,27 +34,16 @@ use Rattle.turns.proofs.Lines.{moves-past, ends-with, ends-at, stops-wi
 
 -- how many hold, of a facade taken apart
 held-apart : (w : World) (ss : List Server) (ys : List Client) (ms : List Message) (n : ℕ) → n ≡ heldAmong (w .config) ys → n ≡ heldClients (facadeOf w ss ys ms)
-unfolding heldClients
 held-apart w ss ys ms n e = e
 
--- the clients after a step, whether true time has gone on or not
-module _ (t : ℕ) (w : World) (ys zs : List Client) where
-  pub ended-by : t < w .time → zs ≡ ended w ys → zs ≡ holdsAfter t w ys
-  unfolding holdsAfter
-  ended-by h e = rw (lt-ltb t (w .time) h) e
+-- the clients are as many when holds have ended
+pub as-many-clients : (c : Config) (n : ℕ) (os : List ℤ) (ys : List Client) → length (ended c n os ys) ≡ length ys
+unfolding ended
+as-many-clients c n os ys = length-filled _ (c .clients) ys
 
-  pub stays-by : w .time ≤ t → zs ≡ ys → zs ≡ holdsAfter t w ys
-  unfolding holdsAfter
-  stays-by h e = rw (le-ltb t (w .time) h) e
-
--- the clients are as many after a step
-pub as-many-clients : (t : ℕ) (w : World) (ys : List Client) → length (holdsAfter t w ys) ≡ length ys
-unfolding holdsAfter ended
-as-many-clients t w ys = cond-case (λ (zs : List Client). length zs ≡ length ys) (ltb t (w .time)) _ _ (λ _. length-filled _ (w .config .clients) ys) (λ _. refl)
-
--- equal parts put together
-pub parts-equal : (w : World) (ss : List Server) {ys zs : List Client} {ms ns : List Message} → ys ≡ zs → ms ≡ ns → facadeOf w ss zs ns ≡ facadeOf w ss ys ms
-parts-equal w ss a b = rw (a, b)
+-- the refusal that reading gives a record, unless it is 3, is that of its step
+pub as-read : (s : List ℕ) (p : ℕ) (r : Record) → r ≡ recordAt s p → (r .refusal ≡ 3 → ⊥) → (x : Action) → x ≡ action (r .step) → r .refusal ≡ malformed x 0
+as-read s p r e n x a = rw (a, e) (record-refusal s p (rw e at n))
 
 -- a run is under way whether it has ended or not
 pub whether-ended : (s : List ℕ) (r : Progress) (ended : Bool) → UnderWay s r → UnderWay s (before (r .facade) (r .place) (r .number) ended)

@@ -1,4 +1,4 @@
-// The data of document 01, what the parties answer, and the parts that a facade is taken apart into for a step.
+// The data of document 01, what a step says and does, what the parties answer, and the parts that a facade is taken apart into.
 // A comment names the term of the paper where it differs.
 
 // The configuration: how many there are of each, and the four times.
@@ -56,6 +56,17 @@ pub struct Server {
     pub lent: [u32; 32],
     pub potlease: [u32; 32],
     pub writes: [OpenWrite; 32],
+}
+
+// What a server keeps for one address, in the terms of DHCP a binding.
+pub struct Binding {
+    pub leads: bool,
+    pub reserved: Reserved,
+    // the lent end (acklease)
+    pub lent: u32,
+    // the record
+    pub potlease: u32,
+    pub write: OpenWrite,
 }
 
 pub enum State {
@@ -128,6 +139,63 @@ pub struct Step {
     pub third: u32,
 }
 
+// What a step says: its kind, with the fields that the kind has. `Unknown` is every other kind.
+pub enum Action {
+    // d, party, e
+    Pass(u32, u32, i32),
+    // server
+    Fail(u32),
+    // server
+    Return(u32),
+    // server, about, says
+    Notice(u32, u32, u32),
+    // client
+    Discover(u32),
+    // client, wanted end τ
+    Request(u32, u32),
+    // client, wanted end τ
+    Renew(u32, u32),
+    // position, keep
+    Deliver(u32, u32),
+    // position
+    Lose(u32),
+    // server
+    Cleanup(u32),
+    Unknown,
+}
+
+// What happens to a server.
+pub enum ServerEvent {
+    Fails,
+    Returns,
+    // about, says
+    Notices(u32, u32),
+    Receives(Message),
+    CleansUp,
+}
+
+// What a client does or hears.
+pub enum ClientEvent {
+    Discovers,
+    // wanted end τ
+    Requests(u32),
+    // wanted end τ
+    Renews(u32),
+    Hears(Message),
+}
+
+// What happens in a step that is not refused, besides that a message may be taken out.
+pub enum Deed {
+    // nothing
+    Rests,
+    // true time goes on by d, and the clock of a party by e more
+    Passes(u32, u32, i32),
+    // to a server
+    Serves(u32, ServerEvent),
+    // to a client
+    Asks(u32, ClientEvent),
+}
+
 // The answer to a step: the refusal or 0, the outcome (0 where refused), and the facade.
 pub struct Answer {
     pub refusal: u32,
@@ -144,6 +212,13 @@ pub struct Outbox {
 // What a server is after handling something, the outcome, and what it sends.
 pub struct ServerAnswer {
     pub server: Server,
+    pub outcome: u32,
+    pub outbox: Outbox,
+}
+
+// The same of what it keeps for one address.
+pub struct BindingAnswer {
+    pub binding: Binding,
     pub outcome: u32,
     pub outbox: Outbox,
 }
@@ -169,18 +244,4 @@ pub struct World {
 pub struct Lives {
     pub alive: [bool; 4],
     pub changed: [u32; 4],
-}
-
-// What a step changes. At hand are the one server, client and message that the step concerns: see crate `world`.
-// The refusal or 0 and the outcome are those of the answer, unless more than 128 messages would wait (13); the world, the server
-// and the client at hand are as after the step; `taken` says whether the message at hand is taken out, and the outbox has what is
-// sent.
-pub struct Change {
-    pub refusal: u32,
-    pub outcome: u32,
-    pub world: World,
-    pub server: Server,
-    pub client: Client,
-    pub taken: bool,
-    pub outbox: Outbox,
 }

@@ -1,17 +1,14 @@
 // A facade taken apart into the world, its servers, clients and messages, and put together again. A run keeps the arrays
-// where they are, since what is handed on is copied, and hands a step only what it looks at: the world, the lives of the
-// servers, and the server, the client and the message at hand.
+// where they are, since what is handed on is copied, and hands on only what is looked at.
 use types::Client;
 use types::Facade;
 use types::Lives;
 use types::Message;
 use types::Server;
-use types::Step;
 use types::World;
 ghost use mathlib.Core.Path.{_≡_};
-ghost use Prim.Native.Nat.{_-_, _≤_};
-ghost use lib.Dec.{T};
-ghost use Rattle.world.specs.Apart.{worldOf, facadeOf, livesOf, placeBelow, messagePlace, serverPlace, clientPlace, restOf};
+ghost use Rattle.rules.specs.Views.{worldOf};
+ghost use Rattle.world.specs.Apart.{facadeOf, livesOf, placeBelow};
 
 pub fn world_of(f: Facade) -> World
     ensures { λ r. ⌜ r ≡ worldOf f ⌝ }
@@ -61,55 +58,12 @@ pub fn lives_of(ss: [Server; 4]) -> Lives
     }
 }
 
-// Number k as a place among n, or place 0 where there is no such place: what is there is at hand then, and stays as it is.
-fn place_below(n: u32, k: u32) -> usize
+// Number k as a place among n, or place 0 where there is no such place.
+pub fn place_below(n: u32, k: u32) -> usize
     ensures { λ r. ⌜ r ≡ placeBelow n k ⌝ }
 {
     if k < n {
         return k as usize;
     }
     0
-}
-
-// The place of the message at hand.
-pub fn message_place(s: Step) -> usize
-    ensures { λ r. ⌜ r ≡ messagePlace s ⌝ }
-{
-    place_below(128, s.first)
-}
-
-// The place of the server at hand, where m is the message at hand. A step that names no server has one at hand all the same,
-// and it is put back as it was.
-pub fn server_place(s: Step, m: Message) -> usize
-    ensures { λ r. ⌜ r ≡ serverPlace s m ⌝ }
-{
-    if s.kind == 8 {
-        return place_below(4, m.receiver);
-    }
-    place_below(4, s.first)
-}
-
-// By how much p is above n, or 0 where it is not.
-fn above(p: u32, n: u32) -> u32
-    ensures { λ r. ⌜ r ≡ p - n ⌝ }
-{
-    if n < p { p - n } else { 0 }
-}
-
-// The place of the client at hand, where m is the message at hand and n the number of servers.
-pub fn client_place(n: u32, s: Step, m: Message) -> usize
-    ensures { λ r. ⌜ r ≡ clientPlace n s m ⌝ }
-{
-    if s.kind == 8 {
-        return place_below(32, above(m.receiver, n));
-    }
-    place_below(32, s.first)
-}
-
-// How many of n waiting messages stay, where one is taken out if `taken`.
-pub fn rest_of(n: u32, taken: bool) -> u32
-    requires { ⌜ (T taken → 1 ≤ n) ⌝ }
-    ensures { λ r. ⌜ r ≡ restOf n taken ⌝ }
-{
-    if taken { n - 1 } else { n }
 }

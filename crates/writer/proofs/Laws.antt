@@ -9,7 +9,7 @@ use lib.Dec.{T}
 use lib.ListN.{length}
 use Rattle.types.specs.declared.Step.{Step}
 use Rattle.rules.specs.Conditions.{within}
-use Rattle.rules.specs.Steps.{action, isKnown}
+use Rattle.rules.specs.Steps.{action, isKnown, malformed}
 use Rattle.rules.proofs.Laws.{true-of, unless-ok, within-high}
 use Rattle.rules.proofs.Actions.{known-kind}
 use Rattle.wire.specs.Numbers.{bytesOf, over}
@@ -19,14 +19,14 @@ use Rattle.script.proofs.Laws.{unknown-has-no-fields}
 
 -- a step that is not refused has a kind from 1 to 10
 kind-told : (s : Step) → stepRefusal s ≡ 0 → T (within 1 10 (s .kind))
-unfolding stepRefusal
+unfolding malformed
 kind-told s e = rw (known-kind s) (unless-ok (isKnown (action s)) 4 _ (omega arith) e .0)
 
 pub kind-high : (s : Step) → stepRefusal s ≡ 0 → s .kind ≤ 10
 kind-high s e = within-high 1 10 (s .kind) (kind-told s e)
 
 pub fields-low : (s : Step) → stepRefusal s ≡ 0 → 1 ≤ fieldsOf (s .kind)
-unfolding stepRefusal
+unfolding malformed
 fields-low s e =
     let known = true-of (isKnown (action s)) (unless-ok (isKnown (action s)) 4 _ (omega arith) e .0) in
     omega (arith, eqb-false (fieldsOf (s .kind)) 0 (sym (unknown-has-no-fields s) ∙ ap not known))

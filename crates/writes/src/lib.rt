@@ -1,16 +1,16 @@
-// What a server does with a write and a write ack: c is the configuration, k the server's number, s its value. The message
-// comes from party p in interaction q.
+// What a server does with a write and a write ack: c is the configuration, k the server's number, b what it keeps for the
+// address a. The message comes from party p in interaction q.
 use arith::both;
 use arith::larger;
 use outbox::nothing;
 use outbox::post;
+use types::Binding;
+use types::BindingAnswer;
 use types::Body;
 use types::Config;
 use types::Message;
 use types::OpenWrite;
 use types::Pending;
-use types::Server;
-use types::ServerAnswer;
 ghost use mathlib.Core.Path.{_≡_};
 ghost use mathlib.Core.Bool.{false};
 ghost use Prim.Native.Nat.{_≤_, _<_};
@@ -18,13 +18,11 @@ ghost use lib.ListN.{getD};
 ghost use Rattle.rules.specs.Conditions.{all};
 ghost use Rattle.rules.specs.Server.{onWrite, matchesWrite, acknowledged, onWriteAck, closed as closedWrite};
 
-pub fn on_write(k: u32, s: Server, p: u32, q: u32, a: u32, v: u32) -> ServerAnswer
-    requires { ⌜ a < 32 ⌝ }
-    ensures { λ x. ⌜ x ≡ onWrite k s p q a v ⌝ }
+pub fn on_write(k: u32, b: Binding, p: u32, q: u32, a: u32, v: u32) -> BindingAnswer
+    ensures { λ x. ⌜ x ≡ onWrite k b p q a v ⌝ }
 {
-    let at = a as usize;
-    let mut t = s;
-    t.potlease[at] = larger(s.potlease[at], v);
+    let mut after = b;
+    after.potlease = larger(b.potlease, v);
     let none = nothing();
     let m = Message {
         sender: k,
@@ -33,8 +31,8 @@ pub fn on_write(k: u32, s: Server, p: u32, q: u32, a: u32, v: u32) -> ServerAnsw
         body: Body::WriteAck(a, v),
     };
     let sent = post(none, m);
-    ServerAnswer {
-        server: t,
+    BindingAnswer {
+        binding: after,
         outcome: 0,
         outbox: sent,
     }
@@ -75,48 +73,46 @@ pub fn closed() -> OpenWrite
     }
 }
 
-// The server when the write of q and v has these acks.
-fn acknowledge(c: Config, s: Server, q: u32, a: u32, v: u32, acked: [bool; 4]) -> Server
-    requires { ⌜ (c .servers ≤ 4) × (a < 32) ⌝ }
-    ensures { λ t. ⌜ t ≡ acknowledged c s q a v acked ⌝ }
+// What is kept when the write of q and v has these acks.
+fn acknowledge(c: Config, b: Binding, q: u32, v: u32, acked: [bool; 4]) -> Binding
+    requires { ⌜ c .servers ≤ 4 ⌝ }
+    ensures { λ x. ⌜ x ≡ acknowledged c b q v acked ⌝ }
 {
-    let at = a as usize;
-    let mut t = s;
-    let l = s.lent[at];
+    let mut after = b;
     if are_all_in(acked, c.servers) {
-        t.lent[at] = larger(l, v);
-        t.writes[at] = closed();
-        return t;
+        let none = closed();
+        after.lent = larger(b.lent, v);
+        after.write = none;
+        return after;
     }
-    t.lent[at] = l;
-    t.writes[at] = OpenWrite {
+    let w = OpenWrite {
         pending: Pending::Open(q, v),
         acked: acked,
     };
-    t
+    after.write = w;
+    after
 }
 
-pub fn on_write_ack(c: Config, s: Server, p: u32, q: u32, a: u32, v: u32) -> ServerAnswer
-    requires { ⌜ (c .servers ≤ 4) × (a < 32) × (p < 4) ⌝ }
-    ensures { λ x. ⌜ x ≡ onWriteAck c s p q a v ⌝ }
+pub fn on_write_ack(c: Config, b: Binding, p: u32, q: u32, v: u32) -> BindingAnswer
+    requires { ⌜ (c .servers ≤ 4) × (p < 4) ⌝ }
+    ensures { λ x. ⌜ x ≡ onWriteAck c b p q v ⌝ }
 {
-    let at = a as usize;
     let from = p as usize;
     let none = nothing();
-    let w = s.writes[at];
+    let w = b.write;
     let pending = w.pending;
-    if both(s.leads[at], is_match(q, v, pending)) {
+    if both(b.leads, is_match(q, v, pending)) {
         let mut acked = w.acked;
         acked[from] = true;
-        let t = acknowledge(c, s, q, a, v, acked);
-        return ServerAnswer {
-            server: t,
+        let after = acknowledge(c, b, q, v, acked);
+        return BindingAnswer {
+            binding: after,
             outcome: 0,
             outbox: none,
         };
     }
-    ServerAnswer {
-        server: s,
+    BindingAnswer {
+        binding: b,
         outcome: 1,
         outbox: none,
     }

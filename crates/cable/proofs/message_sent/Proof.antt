@@ -1,26 +1,19 @@
-use native.Mathlib.Omega.{arith}
 use borrow.Author.Needs.{needs}
 use borrow.Author.Tests.{lt-ltb, le-ltb}
 use Rattle.cable.specs.Places.{messageSent}
 use Rattle.cable.proofs.message_sent.Statement.{statement}
 use Rattle.cable.proofs.message_sent.Tie as tie
 
-mul-result : tie.Need-mul-result
-mul-result c = search needs
-
-element-copy-out-result : tie.Need-element-copy-out-result
-element-copy-out-result c = search needs
-
 returns : tie.Need-returns
 unfolding messageSent
-returns c = let a = c .before .before .args in rw (lt-ltb (a .k) (a .t1 .count) (omega arith))
+returns c = rw (lt-ltb _ _ (c .if1 .taken))
 
 empty-requires : tie.Need-empty-requires
 empty-requires c κs = search needs
 
 returns-2 : tie.Need-returns-2
 unfolding messageSent
-returns-2 c = let a = c .before .before .args in rw (le-ltb (a .k) (a .t1 .count) (omega arith)) (c .empty .ensures)
+returns-2 c = rw (le-ltb _ _ (c .before .if1 .left)) (c .empty .ensures)
 
 pub message-sent-spec : {M : Type 1} → statement M
-message-sent-spec = tie.close (tie.spec mul-result element-copy-out-result returns empty-requires returns-2)
+message-sent-spec = tie.close (tie.spec returns empty-requires returns-2)

@@ -2,21 +2,35 @@ use mathlib.Core.Path.{_≡_}
 use Prim.Native.Nat.{_-_, _≤_}
 use native.Mathlib.Omega.{arith}
 use borrow.Author.Needs.{needs}
-use Rattle.clocks.proofs.Laws.{endedBelow, ended-none, ended-more, ended-all}
+use mir.Syntax.{w32}
+use mir.Val.{SFits}
+use mir.Facts.{toZ-ofZ}
+use lib.IntN.{pos}
+use lib.ListN.{getD}
+use Rattle.rules.specs.Parts.{clientParty}
+use Rattle.rules.specs.Conditions.{filled}
+use Rattle.rules.specs.Steps.{lapsedAt}
+use Rattle.clocks.proofs.Laws.{ended-none, ended-more, ended-all}
 use Rattle.clocks.proofs.end_holds.Statement.{statement}
 use Rattle.clocks.proofs.end_holds.Tie as tie
 
 abbrev Inv-loop : tie.InvT-loop
-Inv-loop w ys c count os out₀ i₀ out i = (i ≤ count) × (count ≤ 32) × (out ≡ endedBelow w ys i)
+Inv-loop w ys c count out₀ i₀ out i = (i ≤ count) × (count ≤ 32) × (out ≡ filled (lapsedAt c (w .time) (w .offsets) ys) i ys)
 
 abbrev μ-loop : tie.MeasureT-loop
-μ-loop w ys c count os out₀ i₀ out i = count - i
+μ-loop w ys c count out₀ i₀ out i = count - i
 
 loop-holds : tie.Need-loop-holds Inv-loop μ-loop
-loop-holds c = (omega arith, omega arith, ended-none _ _)
+loop-holds c = (omega arith, omega arith, ended-none _ _ _ _)
 
 cast-at : tie.Need-cast-at Inv-loop μ-loop
 cast-at c = omega arith
+
+add-p : tie.Need-add-p Inv-loop μ-loop
+add-p c = omega arith
+
+cast-p : tie.Need-cast-p Inv-loop μ-loop
+cast-p c = omega arith
 
 mul-y : tie.Need-mul-y Inv-loop μ-loop
 mul-y c = omega arith
@@ -24,11 +38,14 @@ mul-y c = omega arith
 array-copy-out-y : tie.Need-array-copy-out-y Inv-loop μ-loop
 array-copy-out-y c = omega arith
 
-add-clock-of : tie.Need-add-clock-of Inv-loop μ-loop
-add-clock-of c = omega arith
+mul-reading : tie.Need-mul-reading Inv-loop μ-loop
+mul-reading c = omega arith
 
-clock-of-requires : tie.Need-clock-of-requires Inv-loop μ-loop
-clock-of-requires c κs = omega arith
+element-copy-out-reading : tie.Need-element-copy-out-reading Inv-loop μ-loop
+element-copy-out-reading c = omega arith
+
+reading-requires : tie.Need-reading-requires Inv-loop μ-loop
+reading-requires c κs = omega arith
 
 lapse-requires : tie.Need-lapse-requires Inv-loop μ-loop
 lapse-requires c κs = search needs
@@ -46,10 +63,14 @@ loop-less : tie.Need-loop-less Inv-loop μ-loop
 loop-less c = omega arith
 
 loop-again : tie.Need-loop-again Inv-loop μ-loop
-loop-again c = (omega arith, omega arith, ended-more _ _ _ _ _ _ (c .before .before .before .before .before .loop .inv .2) (c .before .clock-of .ensures) (c .lapse .ensures))
+loop-again c =
+    let l = c .before .before .before .before .before .before .loop in
+    let w = c .before .before .before .before .before .before .before .before .args .t1 in
+    let fit : SFits w32 (getD (w .offsets) (clientParty (w .config) (l .i)) (pos 0)) = search needs in
+    (omega arith, omega arith, ended-more _ _ _ _ _ _ _ _ _ (l .inv .2) (toZ-ofZ fit) (c .before .reading .ensures) (c .lapse .ensures))
 
 returns : tie.Need-returns Inv-loop μ-loop
-returns c = ended-all _ _ _ _ (omega arith) (c .before .loop .inv .2)
+returns c = ended-all _ _ _ _ _ _ (omega arith) (c .before .loop .inv .2)
 
 pub end-holds-spec : {M : Type 1} → statement M
 end-holds-spec =
@@ -59,10 +80,13 @@ end-holds-spec =
     μ-loop
     loop-holds
     cast-at
+    add-p
+    cast-p
     mul-y
     array-copy-out-y
-    add-clock-of
-    clock-of-requires
+    mul-reading
+    element-copy-out-reading
+    reading-requires
     lapse-requires
     mul-out
     array-set-from-out

@@ -1,5 +1,4 @@
 use borrow.Author.Needs.{needs}
-use Rattle.rules.specs.Steps.{heldClients}
 use Rattle.facade.proofs.held.Statement.{statement}
 use Rattle.facade.proofs.held.Tie as tie
 
@@ -7,7 +6,6 @@ held-among-requires : tie.Need-held-among-requires
 held-among-requires c κs = search needs
 
 returns : tie.Need-returns
-unfolding heldClients
 returns c = c .held-among .ensures
 
 pub held-spec : {M : Type 1} → statement M

@@ -6,6 +6,7 @@ use lib.ListN.{getD}
 use Rattle.rules.specs.Conditions.{_and_, counted}
 use Rattle.rules.specs.Parts.{noClient}
 use Rattle.rules.specs.Client.{isHolding}
+use Rattle.rules.specs.Steps.{heldAmong}
 use Rattle.rules.proofs.Laws.{counted-more, counted-high}
 use Rattle.facade.proofs.held_among.Statement.{statement}
 use Rattle.facade.proofs.held_among.Tie as tie
@@ -38,6 +39,7 @@ loop-again : tie.Need-loop-again Inv-loop μ-loop
 loop-again c = (omega arith, counted-more _ _ _ _ _ (c .before .does-hold .ensures) (c .before .before .before .loop .inv .1) (c .one-more-if .ensures))
 
 returns : tie.Need-returns Inv-loop μ-loop
+unfolding heldAmong
 returns c = c .before .loop .inv .1 ∙ ap (counted _) (omega arith)
 
 pub held-among-spec : {M : Type 1} → statement M

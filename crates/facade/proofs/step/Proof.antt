@@ -1,8 +1,6 @@
-use mathlib.Core.Path.{refl, sym, _∙_}
-use Rattle.rules.specs.Steps.{action}
+use mathlib.Core.Path.{sym, _∙_}
+use Rattle.rules.specs.Steps.{action, step}
 use Rattle.rules.proofs.Refusals.{refused-2}
-use Rattle.answers.proofs.Laws.{step-is}
-use Rattle.facade.proofs.Laws.{to-T}
 use borrow.Author.Needs.{needs}
 use Rattle.facade.proofs.step.Statement.{statement}
 use Rattle.facade.proofs.step.Tie as tie
@@ -11,7 +9,7 @@ facade-in-range-requires : tie.Need-facade-in-range-requires
 facade-in-range-requires c κs = search needs
 
 step-in-range-requires : tie.Need-step-in-range-requires
-step-in-range-requires c κs = to-T _ (sym (c .before .facade-in-range .ensures) ∙ c .if1 .taken)
+step-in-range-requires c κs = rw (sym (c .before .facade-in-range .ensures) ∙ c .if1 .taken) tt
 
 returns : tie.Need-returns
 returns c = search needs
@@ -20,9 +18,10 @@ refuse-requires : tie.Need-refuse-requires
 refuse-requires c κs = search needs
 
 returns-2 : tie.Need-returns-2
+unfolding step
 returns-2 c =
     let a = c .before .before .before .args in
-    c .refuse .ensures ∙ refused-2 (a .f) (action (a .s)) (sym (c .before .before .facade-in-range .ensures) ∙ c .before .if1 .left) ∙ step-is _ (a .s) _ refl
+    c .refuse .ensures ∙ refused-2 (a .f) (action (a .s)) (sym (c .before .before .facade-in-range .ensures) ∙ c .before .if1 .left)
 
 pub step-spec : {M : Type 1} → statement M
 step-spec =

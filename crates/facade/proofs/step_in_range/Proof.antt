@@ -1,133 +1,114 @@
+use mathlib.Core.Path.{_≡_, ap, _∙_}
 use native.Mathlib.Omega.{arith}
-use lib.ListN.{length}
-use mathlib.Core.Path.{_≡_}
-use borrow.Author.Needs.{needs}
+use Prim.Native.Nat.{ℕ}
+use lib.ListN.{length, getD}
 use Rattle.outbox.proofs.Laws.{length-mapped}
-use Rattle.world.specs.Apart.{worldOf}
+use Rattle.rules.specs.Parts.{noClient, noMessage}
+use Rattle.rules.specs.Views.{worldOf, atHand}
+use Rattle.rules.specs.Steps.{action, broken}
 use Rattle.world.proofs.Laws.{place-low}
-use Rattle.answers.proofs.Laws.{sizes, time-high, waiting-high}
-use Rattle.facade.proofs.Laws.{message-ready, left-out, put-in, put-in-sound}
+use Rattle.facade.proofs.Laws.{Hand, is-refused, fits, taken-low, is-done}
+use borrow.Author.Needs.{needs}
 use Rattle.facade.proofs.step_in_range.Statement.{statement}
 use Rattle.facade.proofs.step_in_range.Tie as tie
 
-long : (c : tie.Start) → length (c .args .f .messages) ≡ 128
+long : (c : tie.Start) → length (c .args .t1 .messages) ≡ 128
 long c = search (length-mapped, needs)
+
+-- what is at hand
+hand : (c : tie.After-first-broken)
+    → let f = c .before .before .before .before .before .before .before .before .before .before .args .t1 in
+    Hand (worldOf f) (f .servers) (f .clients) (f .messages) (c .before .before .before .before .before .before .before .before .before .before .args .s) (c .before .lives-of .result) (getD (f .messages) (c .before .before .before .before .before .before .before .before .place-below .result) noMessage) ((getD (f .clients) (c .before .before .before .before .before .before .place-below2 .result) noClient) .state)
+hand c =
+    let f = c .before .before .before .before .before .before .before .before .before .before .args .t1 in
+    record {
+      sound = (c .before .before .before .before .before .before .before .before .before .before .pre, long (c .before .before .before .before .before .before .before .before .before .before));
+      lives = c .before .lives-of .ensures;
+      message = ap (λ (j : ℕ). getD (f .messages) j noMessage) (c .before .before .before .before .before .before .before .before .place-below .ensures);
+      state = ap (λ (j : ℕ). (getD (f .clients) j noClient) .state) (c .before .before .before .before .before .before .place-below2 .ensures);
+    }
+
+broken-is : (c : tie.After-first-broken)
+    → c .first-broken .result ≡ broken (atHand (worldOf (c .before .before .before .before .before .before .before .before .before .before .args .t1)) (c .before .lives-of .result) ((getD (c .before .before .before .before .before .before .before .before .before .before .args .t1 .clients) (c .before .before .before .before .before .before .place-below2 .result) noClient) .state)) (action (c .before .before .before .before .before .before .before .before .before .before .args .s)) 0
+broken-is c = rw (← c .before .before .world-of .ensures, ← c .before .before .before .before .before .before .before .before .before .action-of .ensures) (c .first-broken .ensures)
+
+action-of-requires : tie.Need-action-of-requires
+action-of-requires c κs = search needs
+
+place-below-requires : tie.Need-place-below-requires
+place-below-requires c κs = search needs
+
+mul-m : tie.Need-mul-m
+mul-m c = omega (arith, place-low 128 _ _ (omega arith) (c .place-below .ensures))
+
+element-copy-out-m : tie.Need-element-copy-out-m
+element-copy-out-m c = omega (arith, place-low 128 _ _ (omega arith) (c .place-below .ensures))
+
+place-below-requires-2 : tie.Need-place-below-requires-2
+place-below-requires-2 c κs = search needs
+
+mul-y : tie.Need-mul-y
+mul-y c = omega (arith, place-low 32 _ _ (omega arith) (c .place-below2 .ensures))
+
+element-copy-out-y : tie.Need-element-copy-out-y
+element-copy-out-y c = omega (arith, place-low 32 _ _ (omega arith) (c .place-below2 .ensures))
+
+malformed-requires : tie.Need-malformed-requires
+malformed-requires c κs = search needs
 
 world-of-requires : tie.Need-world-of-requires
 world-of-requires c κs = search needs
 
-message-place-requires : tie.Need-message-place-requires
-message-place-requires c κs = search needs
-
-mul-m : tie.Need-mul-m
-mul-m c = omega (arith, place-low 128 _ _ (omega arith) (c .message-place .ensures))
-
-array-copy-out-m : tie.Need-array-copy-out-m
-array-copy-out-m c = omega (arith, place-low 128 _ _ (omega arith) (c .message-place .ensures))
-
-server-place-requires : tie.Need-server-place-requires
-server-place-requires c κs = search needs
-
-mul-own : tie.Need-mul-own
-mul-own c = omega (arith, place-low 4 _ _ (omega arith) (c .server-place .ensures))
-
-array-copy-out-own : tie.Need-array-copy-out-own
-array-copy-out-own c = omega (arith, place-low 4 _ _ (omega arith) (c .server-place .ensures))
-
-client-place-requires : tie.Need-client-place-requires
-client-place-requires c κs = search needs
-
-mul-y : tie.Need-mul-y
-mul-y c = omega (arith, place-low 32 _ _ (omega arith) (c .client-place .ensures))
-
-array-copy-out-y : tie.Need-array-copy-out-y
-array-copy-out-y c = omega (arith, place-low 32 _ _ (omega arith) (c .client-place .ensures))
-
 lives-of-requires : tie.Need-lives-of-requires
 lives-of-requires c κs = search needs
 
-change-requires : tie.Need-change-requires
-change-requires c κs =
-    let start = c .before .before .before .before .before .before .before .before .before .before .before in
-    let f = start .args .f in (
-      record { servers = f .servers; clients = f .clients; messages = f .messages; sound = rw (c .before .before .before .before .before .before .before .before .before .before .world-of .ensures) (start .pre, long start) },
-      rw (c .before .before .before .before .before .before .before .before .before .before .world-of .ensures, c .before .before .before .before .before .before .message-place .ensures) (message-ready f (start .args .s) (start .pre)),
-    )
+first-broken-requires : tie.Need-first-broken-requires
+first-broken-requires c κs =
+    let start = c .before .before .before .before .before .before .before .before .before in
+    let f = start .args .t1 in
+    (record { servers = f .servers; clients = f .clients; messages = f .messages; sound = rw (c .before .world-of .ensures) (start .pre, long start) }, c .before .before .malformed .ensures)
 
 refuse-requires : tie.Need-refuse-requires
 refuse-requires c κs = search needs
 
--- too many messages would wait
 returns : tie.Need-returns
-returns c =
-    let start = c .before .before .before .before .before .before .before .before .before .before .before .before .before .before .before .before in
-    let f = start .args .f in
-    let x = c .before .before .before .before .change in
-    let own = rw (c .before .before .before .before .before .before .before .before .before .before .before .before .before .before .before .world-of .ensures) at (x .ensures .0) in
-    rw (c .refuse .ensures) (left-out (worldOf f) (f .servers) (f .clients) (f .messages) (start .args .s) (start .pre, long start) _ _ _ (c .before .before .before .before .before .before .before .before .before .before .before .message-place .ensures) (c .before .before .before .before .before .before .before .before .before .server-place .ensures) (c .before .before .before .before .before .before .before .client-place .ensures) _ (c .before .before .before .before .before .lives-of .ensures) (x .result) own (c .before .if1 .taken))
+returns c = let at = c .before .before in
+    c .refuse .ensures ∙ is-refused (hand at) _ (broken-is at) (c .before .if1 .taken)
 
-mul-ss : tie.Need-mul-ss
-mul-ss c = omega (arith, place-low 4 _ _ (omega arith) (c .before .before .before .before .before .before .before .before .before .server-place .ensures))
+takes-out-requires : tie.Need-takes-out-requires
+takes-out-requires c κs = search needs
 
-array-set-from-ss : tie.Need-array-set-from-ss
-array-set-from-ss c = omega (arith, place-low 4 _ _ (omega arith) (c .before .before .before .before .before .before .before .before .before .server-place .ensures))
+deed-of-requires : tie.Need-deed-of-requires
+deed-of-requires c κs = search needs
 
-mul-ys : tie.Need-mul-ys
-mul-ys c = omega (arith, place-low 32 _ _ (omega arith) (c .before .before .before .before .before .before .before .before .client-place .ensures))
-
-array-set-from-ys : tie.Need-array-set-from-ys
-array-set-from-ys c = omega (arith, place-low 32 _ _ (omega arith) (c .before .before .before .before .before .before .before .before .client-place .ensures))
-
-holds-after-requires : tie.Need-holds-after-requires
-holds-after-requires c κs =
-    let start = c .before .before .before .before .before .before .before .before .before .before .before .before .before .before .before .before .before .before in
-    let f = start .args .f in
-    let x = c .before .before .before .before .before .before .change in
-    let own = rw (c .before .before .before .before .before .before .before .before .before .before .before .before .before .before .before .before .before .world-of .ensures) at (x .ensures .0) in
-    let v = put-in-sound (worldOf f) (f .servers) (f .clients) (f .messages) (start .args .s) (start .pre, long start) _ _ _ (c .before .before .before .before .before .before .before .before .before .before .before .before .before .message-place .ensures) (c .before .before .before .before .before .before .before .before .before .before .before .server-place .ensures) (c .before .before .before .before .before .before .before .before .before .client-place .ensures) _ (c .before .before .before .before .before .before .before .lives-of .ensures) (x .result) own (c .before .before .before .if1 .left) .0 in
-    (sizes _ v, time-high _ v)
-
-exchange-requires : tie.Need-exchange-requires
-exchange-requires c κs =
-    let start = c .before .before .before .before .before .before .before .before .before .before .before .before .before .before .before .before .before .before .before in
-    let fits = rw (c .before .before .before .before .before .before .before .before .before .before .before .before .before .before .before .before .before .before .world-of .ensures) at (c .before .before .before .before .before .before .before .change .ensures .1) in
-    (waiting-high _ (start .pre), fits .0, fits .1)
-
-facade-of-requires : tie.Need-facade-of-requires
-facade-of-requires c κs = search needs
+enact-requires : tie.Need-enact-requires
+enact-requires c κs = let at = c .before .before .before .before in
+    let start = c .before .before .before .before .before .before .before .before .before .before .before .before .before .before in
+    let zero = c .before .before .before .if1 .left in
+    (start .pre, rw (c .deed-of .ensures, c .before .before .before .before .before .before .before .before .before .before .before .before .before .action-of .ensures) (fits (hand at) _ (broken-is at) zero), rw (c .before .before .takes-out .ensures, c .before .before .before .before .before .before .before .before .before .before .before .before .before .action-of .ensures) (taken-low (hand at) _ (broken-is at) zero))
 
 returns-2 : tie.Need-returns-2
-returns-2 c =
-    let start = c .before .before .before .before .before .before .before .before .before .before .before .before .before .before .before .before .before .before .before .before .before in
-    let f = start .args .f in
-    let x = c .before .before .before .before .before .before .before .before .before .change in
-    let own = rw (c .before .before .before .before .before .before .before .before .before .before .before .before .before .before .before .before .before .before .before .before .world-of .ensures) at (x .ensures .0) in
-    rw (c .facade-of .ensures, c .before .exchange .ensures, c .before .before .holds-after .ensures)
-    (put-in (worldOf f) (f .servers) (f .clients) (f .messages) (start .args .s) (start .pre, long start) _ _ _ (c .before .before .before .before .before .before .before .before .before .before .before .before .before .before .before .before .message-place .ensures) (c .before .before .before .before .before .before .before .before .before .before .before .before .before .before .server-place .ensures) (c .before .before .before .before .before .before .before .before .before .before .before .before .client-place .ensures) _ (c .before .before .before .before .before .before .before .before .before .before .lives-of .ensures) (x .result) own (c .before .before .before .before .before .before .if1 .left))
+returns-2 c = let at = c .before .before .before .before .before in
+    c .enact .ensures ∙ is-done (hand at) _ (broken-is at) (c .before .before .before .before .if1 .left) (rw (c .before .before .before .before .before .before .before .before .before .before .before .before .before .before .action-of .ensures) at (c .before .before .before .takes-out .ensures)) (rw (c .before .before .before .before .before .before .before .before .before .before .before .before .before .before .action-of .ensures) at (c .before .deed-of .ensures))
 
 pub step-in-range-spec : {M : Type 1} → statement M
 step-in-range-spec =
     tie.close
     (tie.spec
-    world-of-requires
-    message-place-requires
+    action-of-requires
+    place-below-requires
     mul-m
-    array-copy-out-m
-    server-place-requires
-    mul-own
-    array-copy-out-own
-    client-place-requires
+    element-copy-out-m
+    place-below-requires-2
     mul-y
-    array-copy-out-y
+    element-copy-out-y
+    malformed-requires
+    world-of-requires
     lives-of-requires
-    change-requires
+    first-broken-requires
     refuse-requires
     returns
-    mul-ss
-    array-set-from-ss
-    mul-ys
-    array-set-from-ys
-    holds-after-requires
-    exchange-requires
-    facade-of-requires
+    takes-out-requires
+    deed-of-requires
+    enact-requires
     returns-2)

@@ -3,16 +3,16 @@ use Prim.Native.Nat.{_-_, _≤_}
 use native.Mathlib.Omega.{arith}
 use borrow.Author.Needs.{needs}
 use Rattle.rules.specs.Conditions.{filled}
-use Rattle.rules.specs.Server.{dropped}
-use Rattle.lending.proofs.Laws.{droppedBelow, dropped-more}
+use Rattle.rules.specs.Server.{reservationsBy, freedIfOf}
+use Rattle.lending.proofs.Laws.{reservations-more}
 use Rattle.lending.proofs.drop_reservations.Statement.{statement}
 use Rattle.lending.proofs.drop_reservations.Tie as tie
 
 abbrev Inv-loop : tie.InvT-loop
-Inv-loop q s n t₀ a₀ t a = (a ≤ n) × (t ≡ droppedBelow q s a)
+Inv-loop n q rs kept₀ a₀ kept a = (a ≤ n) × (kept ≡ reservationsBy (freedIfOf q) a rs)
 
 abbrev μ-loop : tie.MeasureT-loop
-μ-loop q s n t₀ a₀ t a = n - a
+μ-loop n q rs kept₀ a₀ kept a = n - a
 
 loop-holds : tie.Need-loop-holds Inv-loop μ-loop
 unfolding filled
@@ -24,17 +24,17 @@ cast-at c = omega arith
 mul-reservation : tie.Need-mul-reservation Inv-loop μ-loop
 mul-reservation c = omega arith
 
-element-copy-out-reservation : tie.Need-element-copy-out-reservation Inv-loop μ-loop
-element-copy-out-reservation c = omega arith
+array-copy-out-reservation : tie.Need-array-copy-out-reservation Inv-loop μ-loop
+array-copy-out-reservation c = omega arith
 
 freed-if-of-requires : tie.Need-freed-if-of-requires Inv-loop μ-loop
 freed-if-of-requires c κs = search needs
 
-mul-t14 : tie.Need-mul-t14 Inv-loop μ-loop
-mul-t14 c = omega arith
+mul-kept : tie.Need-mul-kept Inv-loop μ-loop
+mul-kept c = omega arith
 
-element-set-from-t : tie.Need-element-set-from-t Inv-loop μ-loop
-element-set-from-t c = omega arith
+array-set-from-kept : tie.Need-array-set-from-kept Inv-loop μ-loop
+array-set-from-kept c = omega arith
 
 add-a : tie.Need-add-a Inv-loop μ-loop
 add-a c = omega arith
@@ -44,11 +44,11 @@ loop-less c = omega arith
 
 loop-again : tie.Need-loop-again Inv-loop μ-loop
 loop-again c = let a = c .before .before .before .before .args in
-    (omega arith, dropped-more (a .q) (a .t3) _ _ _ (c .before .before .before .loop .inv .1) (c .freed-if-of .ensures))
+    (omega arith, reservations-more (freedIfOf (a .q)) _ (a .t3) _ _ (c .before .before .before .loop .inv .1) (c .freed-if-of .ensures))
 
 returns : tie.Need-returns Inv-loop μ-loop
-unfolding dropped
-returns c = c .before .loop .inv .1 ∙ ap (droppedBelow (c .before .before .args .q) (c .before .before .args .t3)) (omega arith)
+returns c = let a = c .before .before .args in
+    c .before .loop .inv .1 ∙ ap (λ n. reservationsBy (freedIfOf (a .q)) n (a .t3)) (omega arith)
 
 pub drop-reservations-spec : {M : Type 1} → statement M
 drop-reservations-spec =
@@ -59,10 +59,10 @@ drop-reservations-spec =
     loop-holds
     cast-at
     mul-reservation
-    element-copy-out-reservation
+    array-copy-out-reservation
     freed-if-of-requires
-    mul-t14
-    element-set-from-t
+    mul-kept
+    array-set-from-kept
     add-a
     loop-less
     loop-again

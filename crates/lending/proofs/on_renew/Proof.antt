@@ -4,20 +4,11 @@ use Rattle.rules.specs.Server.{onRenew}
 use Rattle.lending.proofs.on_renew.Statement.{statement}
 use Rattle.lending.proofs.on_renew.Tie as tie
 
-element-copy-out-both : tie.Need-element-copy-out-both
-element-copy-out-both c = search needs
-
 both-requires : tie.Need-both-requires
 both-requires c κs = search needs
 
 add-larger : tie.Need-add-larger
 add-larger c = search needs
-
-mul-larger : tie.Need-mul-larger
-mul-larger c = search needs
-
-element-copy-out-larger : tie.Need-element-copy-out-larger
-element-copy-out-larger c = search needs
 
 larger-requires : tie.Need-larger-requires
 larger-requires c κs = search needs
@@ -27,7 +18,7 @@ grant-requires c κs = search needs
 
 returns : tie.Need-returns
 unfolding onRenew
-returns c = rw (sym (c .before .before .before .before .before .both .ensures) ∙ c .before .before .before .before .if1 .taken, ← c .before .larger .ensures) (c .grant .ensures)
+returns c = rw (sym (c .before .before .before .before .both .ensures) ∙ c .before .before .before .if1 .taken, ← c .before .larger .ensures) (c .grant .ensures)
 
 nothing-requires : tie.Need-nothing-requires
 nothing-requires c κs = search needs
@@ -40,11 +31,8 @@ pub on-renew-spec : {M : Type 1} → statement M
 on-renew-spec =
     tie.close
     (tie.spec
-    element-copy-out-both
     both-requires
     add-larger
-    mul-larger
-    element-copy-out-larger
     larger-requires
     grant-requires
     returns

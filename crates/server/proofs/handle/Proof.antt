@@ -1,103 +1,100 @@
 use native.Mathlib.Omega.{arith}
-use Rattle.rules.specs.Server.{serverHandles}
-use Rattle.server.proofs.Laws.{request-address, renew-address, write-address, ack-address, ack-sender}
 use borrow.Author.Needs.{needs}
+use Rattle.server.specs.Bodies.{handledAt}
+use Rattle.server.proofs.Laws.{ack-sender}
 use Rattle.server.proofs.handle.Statement.{statement}
 use Rattle.server.proofs.handle.Tie as tie
 
 enum-told : tie.Need-enum-told
 enum-told c = search needs
 
-unmoved-requires : tie.Need-unmoved-requires
-unmoved-requires c κs = search needs
+unmet-requires : tie.Need-unmet-requires
+unmet-requires c κs = search needs
 
 enum-told-2 : tie.Need-enum-told-2
 enum-told-2 c = search needs
 
-on-discover-requires : tie.Need-on-discover-requires
-on-discover-requires c κs = search needs
+unmet-requires-2 : tie.Need-unmet-requires-2
+unmet-requires-2 c κs = search needs
 
 enum-told-3 : tie.Need-enum-told-3
 enum-told-3 c = search needs
 
-unmoved-requires-2 : tie.Need-unmoved-requires-2
-unmoved-requires-2 c κs = search needs
+unmet-requires-3 : tie.Need-unmet-requires-3
+unmet-requires-3 c κs = search needs
 
 enum-known-body : tie.Need-enum-known-body
 enum-known-body c = search needs
 
 on-request-requires : tie.Need-on-request-requires
-on-request-requires c κs = let p = c .before .before .before .pre in
-    (p .0, p .1, request-address _ _ _ _ _ (rw (c .before .body .given .1) at (p .3)), p .2)
+on-request-requires c κs = search needs
 
 enum-known-body-2 : tie.Need-enum-known-body-2
 enum-known-body-2 c = search needs
 
 on-renew-requires : tie.Need-on-renew-requires
-on-renew-requires c κs = let p = c .before .before .before .pre in
-    (p .0, p .1, renew-address _ _ _ _ _ _ (rw (c .before .body2 .given .1) at (p .3)), p .2)
+on-renew-requires c κs = search needs
 
 enum-known-body-3 : tie.Need-enum-known-body-3
 enum-known-body-3 c = search needs
 
 on-write-requires : tie.Need-on-write-requires
-on-write-requires c κs = omega (arith, write-address _ _ _ _ _ (rw (c .before .body3 .given .1) at (c .before .before .before .pre .3)))
+on-write-requires c κs = search needs
 
 enum-known-body-4 : tie.Need-enum-known-body-4
 enum-known-body-4 c = search needs
 
 on-write-ack-requires : tie.Need-on-write-ack-requires
-on-write-ack-requires c κs = let t = rw (c .before .body4 .given .1) at (c .before .before .before .pre .3) in
-    omega (arith, ack-address _ _ _ _ _ t, ack-sender _ _ _ _ _ t)
+on-write-ack-requires c κs = omega (arith, ack-sender _ _ _ _ _ (rw (c .before .body4 .given .1) at (c .before .before .before .pre .3)))
 
 enum-told-4 : tie.Need-enum-told-4
 enum-told-4 c = search needs
 
-unmoved-requires-3 : tie.Need-unmoved-requires-3
-unmoved-requires-3 c κs = search needs
+unmet-requires-4 : tie.Need-unmet-requires-4
+unmet-requires-4 c κs = search needs
 
 returns : tie.Need-returns
-unfolding serverHandles
-returns c = rw (c .before .enum-told .given .1) (c .unmoved .ensures)
+unfolding handledAt
+returns c = rw (c .before .enum-told .given .1) (c .unmet .ensures)
 
 returns-2 : tie.Need-returns-2
-unfolding serverHandles
-returns-2 c = rw (c .before .enum-told2 .given .1) (c .on-discover .ensures)
+unfolding handledAt
+returns-2 c = rw (c .before .enum-told2 .given .1) (c .unmet2 .ensures)
 
 returns-3 : tie.Need-returns-3
-unfolding serverHandles
-returns-3 c = rw (c .before .enum-told3 .given .1) (c .unmoved2 .ensures)
+unfolding handledAt
+returns-3 c = rw (c .before .enum-told3 .given .1) (c .unmet3 .ensures)
 
 returns-4 : tie.Need-returns-4
-unfolding serverHandles
+unfolding handledAt
 returns-4 c = rw (c .before .before .body .given .1) (c .on-request .ensures)
 
 returns-5 : tie.Need-returns-5
-unfolding serverHandles
+unfolding handledAt
 returns-5 c = rw (c .before .before .body2 .given .1) (c .on-renew .ensures)
 
 returns-6 : tie.Need-returns-6
-unfolding serverHandles
+unfolding handledAt
 returns-6 c = rw (c .before .before .body3 .given .1) (c .on-write .ensures)
 
 returns-7 : tie.Need-returns-7
-unfolding serverHandles
+unfolding handledAt
 returns-7 c = rw (c .before .before .body4 .given .1) (c .on-write-ack .ensures)
 
 returns-8 : tie.Need-returns-8
-unfolding serverHandles
-returns-8 c = rw (c .before .enum-told4 .given .1) (c .unmoved3 .ensures)
+unfolding handledAt
+returns-8 c = rw (c .before .enum-told4 .given .1) (c .unmet4 .ensures)
 
 pub handle-spec : {M : Type 1} → statement M
 handle-spec =
     tie.close
     (tie.spec
     enum-told
-    unmoved-requires
+    unmet-requires
     enum-told-2
-    on-discover-requires
+    unmet-requires-2
     enum-told-3
-    unmoved-requires-2
+    unmet-requires-3
     enum-known-body
     on-request-requires
     enum-known-body-2
@@ -107,7 +104,7 @@ handle-spec =
     enum-known-body-4
     on-write-ack-requires
     enum-told-4
-    unmoved-requires-3
+    unmet-requires-4
     returns
     returns-2
     returns-3

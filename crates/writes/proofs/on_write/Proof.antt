@@ -5,20 +5,8 @@ use Rattle.outbox.proofs.Laws.{sent-nothing}
 use Rattle.writes.proofs.on_write.Statement.{statement}
 use Rattle.writes.proofs.on_write.Tie as tie
 
-mul-larger : tie.Need-mul-larger
-mul-larger c = search needs
-
-element-copy-out-larger : tie.Need-element-copy-out-larger
-element-copy-out-larger c = search needs
-
 larger-requires : tie.Need-larger-requires
 larger-requires c κs = search needs
-
-mul-t : tie.Need-mul-t
-mul-t c = search needs
-
-element-write-t : tie.Need-element-write-t
-element-write-t c = search needs
 
 nothing-requires : tie.Need-nothing-requires
 nothing-requires c κs = search needs
@@ -31,14 +19,4 @@ unfolding onWrite
 returns c = rw (c .before .before .larger .ensures, c .post .ensures, c .before .nothing .ensures)
 
 pub on-write-spec : {M : Type 1} → statement M
-on-write-spec =
-    tie.close
-    (tie.spec
-    mul-larger
-    element-copy-out-larger
-    larger-requires
-    mul-t
-    element-write-t
-    nothing-requires
-    post-requires
-    returns)
+on-write-spec = tie.close (tie.spec larger-requires nothing-requires post-requires returns)

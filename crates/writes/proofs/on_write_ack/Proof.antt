@@ -7,15 +7,6 @@ use Rattle.writes.proofs.on_write_ack.Tie as tie
 nothing-requires : tie.Need-nothing-requires
 nothing-requires c κs = search needs
 
-mul-w : tie.Need-mul-w
-mul-w c = search needs
-
-element-copy-out-w : tie.Need-element-copy-out-w
-element-copy-out-w c = search needs
-
-element-copy-out-both : tie.Need-element-copy-out-both
-element-copy-out-both c = search needs
-
 is-match-requires : tie.Need-is-match-requires
 is-match-requires c κs = search needs
 
@@ -30,20 +21,18 @@ acknowledge-requires c κs = search needs
 
 returns : tie.Need-returns
 unfolding onWriteAck
-returns c = rw (← c .before .before .before .before .is-match .ensures, sym (c .before .before .before .both .ensures) ∙ c .before .before .if1 .taken, c .acknowledge .ensures, c .before .before .before .before .before .before .before .nothing .ensures)
+returns c = let b = c .before .before .before in
+    rw (← b .before .is-match .ensures, sym (b .both .ensures) ∙ c .before .before .if1 .taken, c .acknowledge .ensures, b .before .before .before .nothing .ensures)
 
 returns-2 : tie.Need-returns-2
 unfolding onWriteAck
-returns-2 c = rw (← c .before .before .is-match .ensures, sym (c .before .both .ensures) ∙ c .if1 .left, c .before .before .before .before .before .nothing .ensures)
+returns-2 c = rw (← c .before .before .is-match .ensures, sym (c .before .both .ensures) ∙ c .if1 .left, c .before .before .before .before .nothing .ensures)
 
 pub on-write-ack-spec : {M : Type 1} → statement M
 on-write-ack-spec =
     tie.close
     (tie.spec
     nothing-requires
-    mul-w
-    element-copy-out-w
-    element-copy-out-both
     is-match-requires
     both-requires
     array-write-acked

@@ -1,0 +1,159 @@
+// What happens in a step that is not refused, by the party to which it happens.
+use client::discover;
+use client::renew;
+use client::request;
+use clocks::row_now;
+use outbox::nothing;
+use types::Action;
+use types::ClientAnswer;
+use types::ClientEvent;
+use types::Config;
+use types::Deed;
+use types::Message;
+use types::Server;
+use types::ServerAnswer;
+use types::ServerEvent;
+use types::State;
+ghost use mathlib.Core.Path.{_≡_};
+ghost use Prim.Native.Nat.{_+_, _*_, _≤_, _<_};
+ghost use lib.Dec.{T};
+ghost use lib.ListN.{set};
+ghost use Rattle.rules.specs.Parts.{withLife};
+ghost use Rattle.rules.specs.Messages.{nothing as nothingSent};
+ghost use Rattle.rules.specs.Server.{answer};
+ghost use Rattle.rules.specs.Steps.{takes, delivered, deed, serverAfter, noticesAfter, clientAfter, nextAfter};
+ghost use Rattle.rules.proofs.Kept.{Configured};
+ghost use Rattle.deeds.specs.Deeds.{eventInRange};
+
+// Whether the message that the step names is taken out.
+pub fn takes_out(x: Action) -> bool
+    ensures { λ r. ⌜ r ≡ takes x ⌝ }
+{
+    match x {
+        Action::Pass(_, _, _) => false,
+        Action::Fail(_) => false,
+        Action::Return(_) => false,
+        Action::Notice(_, _, _) => false,
+        Action::Discover(_) => false,
+        Action::Request(_, _) => false,
+        Action::Renew(_, _) => false,
+        Action::Deliver(_, keep) => keep == 0,
+        Action::Lose(_) => true,
+        Action::Cleanup(_) => false,
+        Action::Unknown => false,
+    }
+}
+
+// A message is handled by the party that it is for.
+fn delivery(c: Config, m: Message) -> Deed
+    ensures { λ d. ⌜ d ≡ delivered c m ⌝ }
+{
+    let to = m.receiver;
+    if to < c.servers {
+        return Deed::Serves(to, ServerEvent::Receives(m));
+    }
+    Deed::Asks(to - c.servers, ClientEvent::Hears(m))
+}
+
+// What happens in a step, where m is the message at the position that it names.
+pub fn deed_of(c: Config, m: Message, x: Action) -> Deed
+    ensures { λ d. ⌜ d ≡ deed c m x ⌝ }
+{
+    match x {
+        Action::Pass(d, p, e) => Deed::Passes(d, p, e),
+        Action::Fail(k) => Deed::Serves(k, ServerEvent::Fails),
+        Action::Return(k) => Deed::Serves(k, ServerEvent::Returns),
+        Action::Notice(k, j, says) => Deed::Serves(k, ServerEvent::Notices(j, says)),
+        Action::Discover(i) => Deed::Asks(i, ClientEvent::Discovers),
+        Action::Request(i, t) => Deed::Asks(i, ClientEvent::Requests(t)),
+        Action::Renew(i, t) => Deed::Asks(i, ClientEvent::Renews(t)),
+        Action::Deliver(_, _) => delivery(c, m),
+        Action::Lose(_) => Deed::Rests,
+        Action::Cleanup(k) => Deed::Serves(k, ServerEvent::CleansUp),
+        Action::Unknown => Deed::Rests,
+    }
+}
+
+// Server s is alive or not from true time t on; it sends nothing.
+fn with_life(s: Server, alive: bool, t: u32) -> ServerAnswer
+    ensures { λ x. ⌜ x ≡ answer (withLife s alive t) 0 nothingSent ⌝ }
+{
+    let mut u = s;
+    u.alive = alive;
+    u.changed = t;
+    let none = nothing();
+    ServerAnswer {
+        server: u,
+        outcome: 0,
+        outbox: none,
+    }
+}
+
+// Server k after an event at true time t, its clock reading being r.
+pub fn server_after(c: Config, t: u32, k: u32, r: u32, s: Server, e: ServerEvent) -> ServerAnswer
+    requires { ⌜ Configured c × (k < c .servers) × (r ≤ 1000001000) × T (eventInRange c k e) ⌝ }
+    ensures { λ x. ⌜ x ≡ serverAfter c t k r s e ⌝ }
+{
+    match e {
+        ServerEvent::Fails => with_life(s, false, t),
+        ServerEvent::Returns => {
+            let x = server::come_back(r, s);
+            let u = x.server;
+            with_life(u, true, t)
+        }
+        ServerEvent::Notices(j, says) => server::notice(c, k, r, s, j, says),
+        ServerEvent::Receives(m) => server::receive(c, k, r, s, m),
+        ServerEvent::CleansUp => server::clean_up(c, r, s),
+    }
+}
+
+// The notice times with that of receiver k about server j set to t.
+fn notice_now(ts: [u32; 16], k: u32, j: u32, t: u32) -> [u32; 16]
+    requires { ⌜ (k < 4) × (j < 4) ⌝ }
+    ensures { λ r. ⌜ r ≡ set ts (k * 4 + j) t ⌝ }
+{
+    let at = (k * 4 + j) as usize;
+    let mut out = ts;
+    out[at] = t;
+    out
+}
+
+// The notice times after it.
+pub fn notices_after(c: Config, ts: [u32; 16], t: u32, k: u32, e: ServerEvent) -> [u32; 16]
+    requires { ⌜ Configured c × (k < c .servers) × T (eventInRange c k e) ⌝ }
+    ensures { λ r. ⌜ r ≡ noticesAfter ts t k e ⌝ }
+{
+    match e {
+        ServerEvent::Fails => ts,
+        ServerEvent::Returns => row_now(ts, k, t),
+        ServerEvent::Notices(j, _) => notice_now(ts, k, j, t),
+        ServerEvent::Receives(_) => ts,
+        ServerEvent::CleansUp => ts,
+    }
+}
+
+// Client i in state x after an event, its clock reading being r and n the next interaction.
+pub fn client_after(c: Config, n: u32, i: u32, r: u32, x: State, e: ClientEvent) -> ClientAnswer
+    requires { ⌜ Configured c × (i < c .clients) ⌝ }
+    ensures { λ y. ⌜ y ≡ clientAfter c n i r x e ⌝ }
+{
+    match e {
+        ClientEvent::Discovers => discover(c, i, x, n),
+        ClientEvent::Requests(t) => request(c, i, x, t),
+        ClientEvent::Renews(t) => renew(c, i, x, t, n),
+        ClientEvent::Hears(m) => client::receive(r, x, m),
+    }
+}
+
+// The next interaction after it.
+pub fn next_after(n: u32, e: ClientEvent) -> u32
+    requires { ⌜ n ≤ 1000001 ⌝ }
+    ensures { λ r. ⌜ r ≡ nextAfter n e ⌝ }
+{
+    match e {
+        ClientEvent::Discovers => n + 1,
+        ClientEvent::Requests(_) => n,
+        ClientEvent::Renews(_) => n + 1,
+        ClientEvent::Hears(_) => n,
+    }
+}

@@ -1,0 +1,90 @@
+use mathlib.Core.Path.{_≡_}
+use mathlib.Core.Bool.{Bool}
+use native.Mathlib.Omega.{arith}
+use mir.Syntax.{w32}
+use mir.Val.{SFits, toZ, ofZ}
+use mir.Facts.{toZ-ofZ}
+use lib.IntN.{pos}
+use lib.ListN.{getD}
+use Rattle.world.proofs.Laws.{sizes, time-high, offset-high}
+use borrow.Author.Tests.{not-true, not-false}
+use Rattle.types.specs.declared.State.the-variants.{Idle}
+use Rattle.rules.specs.Views.{offsetIn}
+use Rattle.rules.specs.Steps.{offsetAllows}
+use Rattle.refusals.proofs.Laws.{holds, fails, pass-fields, pass-6, pass-8, pass-9, pass-10, pass-kept}
+use borrow.Author.Needs.{needs}
+use Rattle.refusals.proofs.pass_barred.Statement.{statement}
+use Rattle.refusals.proofs.pass_barred.Tie as tie
+
+-- the numbers that the code read
+allows : (c : tie.Start) → SFits w32 (offsetIn (c .args .t1) (c .args .p)) → {r : Bool} → r ≡ offsetAllows (c .args .t1 .config) (toZ w32 (ofZ w32 (offsetIn (c .args .t1) (c .args .p)))) (c .args .d) (toZ w32 (ofZ w32 (c .args .e)))
+    → r ≡ offsetAllows (c .args .t1 .config) (offsetIn (c .args .t1) (c .args .p)) (c .args .d) (c .args .e)
+allows c fit h = rw (toZ-ofZ fit, toZ-ofZ (c .fits .e)) at h
+
+add-if1 : tie.Need-add-if1
+add-if1 c = omega (arith, sizes _ (c .before .before .pre .0 .sound .0))
+
+returns : tie.Need-returns
+returns c = pass-6 (c .before .before .before .args .t1) (c .before .before .before .args .l) Idle (c .before .before .before .args .d) (c .before .before .before .args .p) (c .before .before .before .args .e) (c .if1 .taken)
+
+add-if2 : tie.Need-add-if2
+add-if2 c = let start = c .before .before .before in
+    omega (arith, time-high _ (start .pre .0 .sound .0), (pass-fields _ _ _ (start .pre .1)) .0)
+
+returns-2 : tie.Need-returns-2
+returns-2 c = pass-8 (c .before .before .before .before .args .t1) (c .before .before .before .before .args .l) Idle (c .before .before .before .before .args .d) (c .before .before .before .before .args .p) (c .before .before .before .before .args .e) (c .before .if1 .left) (c .if2 .taken)
+
+mul-does-clock-allow : tie.Need-mul-does-clock-allow
+mul-does-clock-allow c = search needs
+
+element-copy-out-does-clock-allow : tie.Need-element-copy-out-does-clock-allow
+element-copy-out-does-clock-allow c = omega (arith, c .before .if1 .left, sizes _ (c .before .before .before .before .pre .0 .sound .0))
+
+does-clock-allow-requires : tie.Need-does-clock-allow-requires
+does-clock-allow-requires c κs =
+    let start = c .before .before .before .before .before in
+    let fit : SFits w32 (getD (start .args .t1 .offsets) (start .args .p) (pos 0)) = search needs in
+    (rw (toZ-ofZ fit) (offset-high _ (start .pre .0 .sound .0) (start .args .p) (c .before .before .if1 .left)), rw (toZ-ofZ (start .fits .e)) ((pass-fields _ _ _ (start .pre .1)) .1))
+
+returns-3 : tie.Need-returns-3
+returns-3 c =
+    let start = c .before .before .before .before .before .before .before in
+    let fit : SFits w32 (offsetIn (start .args .t1) (start .args .p)) = search needs in
+    pass-9 (start .args .t1) (start .args .l) Idle (start .args .d) (start .args .p) (start .args .e) (c .before .before .before .before .if1 .left) (c .before .before .before .if2 .left) (fails (allows start fit (c .before .does-clock-allow .ensures)) (c .if3 .taken))
+
+add-is-in-touch : tie.Need-add-is-in-touch
+add-is-in-touch c = search needs
+
+is-in-touch-requires : tie.Need-is-in-touch-requires
+is-in-touch-requires c κs = (sizes _ (c .before .before .before .before .before .before .before .before .before .pre .0 .sound .0)) .servers-high
+
+returns-4 : tie.Need-returns-4
+returns-4 c =
+    let start = c .before .before .before .before .before .before .before .before .before .before .before in
+    let allowed = c .before .before .before .before in
+    let fit : SFits w32 (offsetIn (start .args .t1) (start .args .p)) = search needs in
+    pass-10 (start .args .t1) (start .args .l) Idle (start .args .d) (start .args .p) (start .args .e) (allowed .before .before .before .before .if1 .left) (allowed .before .before .before .if2 .left) (holds (allows start fit (allowed .before .does-clock-allow .ensures)) (allowed .if3 .left)) (c .before .is-in-touch .result) (c .before .is-in-touch .ensures) (not-true _ (c .if4 .taken))
+
+returns-5 : tie.Need-returns-5
+returns-5 c =
+    let start = c .before .before .before .before .before .before .before .before .before .before .before in
+    let allowed = c .before .before .before .before in
+    let fit : SFits w32 (offsetIn (start .args .t1) (start .args .p)) = search needs in
+    pass-kept (start .args .t1) (start .args .l) Idle (start .args .d) (start .args .p) (start .args .e) (allowed .before .before .before .before .if1 .left) (allowed .before .before .before .if2 .left) (holds (allows start fit (allowed .before .does-clock-allow .ensures)) (allowed .if3 .left)) (c .before .is-in-touch .result) (c .before .is-in-touch .ensures) (not-false _ (c .if4 .left))
+
+pub pass-barred-spec : {M : Type 1} → statement M
+pass-barred-spec =
+    tie.close
+    (tie.spec
+    add-if1
+    returns
+    add-if2
+    returns-2
+    mul-does-clock-allow
+    element-copy-out-does-clock-allow
+    does-clock-allow-requires
+    returns-3
+    add-is-in-touch
+    is-in-touch-requires
+    returns-4
+    returns-5)

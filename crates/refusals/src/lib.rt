@@ -1,0 +1,118 @@
+// The first of the rules 4 to 12 that a step breaks, by what the rules look at: w is the world, l the lives of the servers, x the
+// state of the client that the step names.
+use arith::both;
+use arith::unless;
+use client::is_holding;
+use client::is_offered;
+use clocks::does_clock_allow;
+use clocks::is_credible_notice;
+use clocks::is_in_touch;
+use types::Action;
+use types::Config;
+use types::Lives;
+use types::State;
+use types::World;
+ghost use mathlib.Core.Path.{_≡_};
+ghost use mathlib.Core.Bool.{false};
+ghost use lib.Dec.{ltb};
+ghost use lib.ListN.{getD};
+ghost use Rattle.types.specs.declared.State.the-variants.{Idle};
+ghost use Rattle.rules.specs.Conditions.{unless as unlessOk};
+ghost use Rattle.rules.specs.Ranges.{isServer};
+ghost use Rattle.rules.specs.Views.{atHand};
+ghost use Rattle.rules.specs.Steps.{pass, notice, malformed, barred, broken};
+ghost use Rattle.world.specs.Apart.{WorldInRange};
+
+// Whether server k is alive; one that does not exist is not.
+fn is_alive(l: Lives, k: u32) -> bool
+    ensures { λ r. ⌜ r ≡ getD (l .alive) k false ⌝ }
+{
+    if k < 4 {
+        let at = k as usize;
+        return l.alive[at];
+    }
+    false
+}
+
+// c, the true time of the last change of server k.
+fn last_change(l: Lives, k: u32) -> u32
+    ensures { λ r. ⌜ r ≡ getD (l .changed) k 0 ⌝ }
+{
+    if k < 4 {
+        let at = k as usize;
+        return l.changed[at];
+    }
+    0
+}
+
+// Refusals 6 and 7 of fail, return and cleanup of server k, which is in a state that allows it or not.
+fn server_barred(c: Config, k: u32, allowed: bool) -> u32
+    ensures { λ r. ⌜ r ≡ unlessOk (isServer c k) 6 (unlessOk allowed 7 0) ⌝ }
+{
+    unless(k < c.servers, 6, unless(allowed, 7, 0))
+}
+
+// Refusals 6, 7 and 12 of discover, request and renew of client i; `left` says whether a new κ, if it takes one, is left.
+fn client_barred(c: Config, i: u32, allowed: bool, left: bool) -> u32
+    ensures { λ r. ⌜ r ≡ unlessOk (ltb i (c .clients)) 6 (unlessOk allowed 7 (unlessOk left 12 0)) ⌝ }
+{
+    unless(i < c.clients, 6, unless(allowed, 7, unless(left, 12, 0)))
+}
+
+// Refusals 6, 7 and 11 of a notice to server k about server j.
+fn notice_barred(w: World, l: Lives, k: u32, j: u32, says: u32) -> u32
+    ensures { λ r. ⌜ r ≡ barred (atHand w l Idle) (notice k j says) 0 ⌝ }
+{
+    let c = w.config;
+    let named = both(k < c.servers, both(j < c.servers, !(j == k)));
+    let so = is_credible_notice(c, w.time, is_alive(l, j), last_change(l, j), says);
+    unless(named, 6, unless(is_alive(l, k), 7, unless(so, 11, 0)))
+}
+
+// Refusals 6, 8, 9 and 10 of a pass.
+fn pass_barred(w: World, l: Lives, d: u32, p: u32, e: i32) -> u32
+    requires { ⌜ WorldInRange w × (malformed (pass d p e) 0 ≡ 0) ⌝ }
+    ensures { λ r. ⌜ r ≡ barred (atHand w l Idle) (pass d p e) 0 ⌝ }
+{
+    let c = w.config;
+    if c.servers + c.clients <= p {
+        return 6;
+    }
+    if 1000000000 < w.time + d {
+        return 8;
+    }
+    let at = p as usize;
+    if !does_clock_allow(c, w.offsets[at], d, e) {
+        return 9;
+    }
+    let ts = w.notices;
+    let alive = l.alive;
+    if !is_in_touch(c, ts, alive, w.time + d) {
+        return 10;
+    }
+    0
+}
+
+// The number of the first rule that is broken, or 0; n is that of the rules 4 and 5, which the step alone can break.
+pub fn first_broken(n: u32, w: World, l: Lives, x: State, a: Action) -> u32
+    requires { ⌜ WorldInRange w × (n ≡ malformed a 0) ⌝ }
+    ensures { λ r. ⌜ r ≡ broken (atHand w l x) a 0 ⌝ }
+{
+    if n != 0 {
+        return n;
+    }
+    let c = w.config;
+    match a {
+        Action::Pass(d, p, e) => pass_barred(w, l, d, p, e),
+        Action::Fail(k) => server_barred(c, k, is_alive(l, k)),
+        Action::Return(k) => server_barred(c, k, !is_alive(l, k)),
+        Action::Notice(k, j, says) => notice_barred(w, l, k, j, says),
+        Action::Discover(i) => client_barred(c, i, !is_holding(x), w.next <= 1000000),
+        Action::Request(i, _) => client_barred(c, i, is_offered(x), true),
+        Action::Renew(i, _) => client_barred(c, i, is_holding(x), w.next <= 1000000),
+        Action::Deliver(p, _) => unless(p < w.waiting, 6, 0),
+        Action::Lose(p) => unless(p < w.waiting, 6, 0),
+        Action::Cleanup(k) => server_barred(c, k, is_alive(l, k)),
+        Action::Unknown => 4,
+    }
+}
