@@ -20,10 +20,11 @@ type Recipe = fn(&mut Maker);
 
 /// The script without records, then each recipe at a tenth and in full.
 pub fn loads() -> Vec<Load> {
-    let recipes: [(&str, Recipe); 3] = [
+    let recipes: [(&str, Recipe); 4] = [
         ("few parties", few_parties),
         ("many parties", many_parties),
         ("mostly refused", mostly_refused),
+        ("nearly full", nearly_full),
     ];
     let mut loads = vec![made("no records", few_parties, HEADER_LENGTH)];
     for (name, recipe) in recipes {
@@ -148,8 +149,19 @@ const MANY: Configuration = Configuration {
 /// Messages that wait all the time, about this many.
 const CROWD: usize = 100;
 
-/// 32 clients and 32 addresses, with messages delivered in any order.
+/// So many that what a step sends may not find room.
+const NEARLY_FULL: usize = 125;
+
 fn many_parties(maker: &mut Maker) {
+    crowded(maker, CROWD);
+}
+
+fn nearly_full(maker: &mut Maker) {
+    crowded(maker, NEARLY_FULL);
+}
+
+/// 32 clients and 32 addresses, with messages delivered in any order.
+fn crowded(maker: &mut Maker, crowd: usize) {
     maker.begin(MANY);
     maker.settle();
     while !maker.full {
@@ -160,7 +172,7 @@ fn many_parties(maker: &mut Maker) {
                 let server = maker.random.below(4);
                 maker.put(Step::Cleanup { server });
             }
-            _ if waiting < CROWD => {
+            _ if waiting < crowd => {
                 let client = pressing_client(maker);
                 maker.ask(client);
             }
@@ -256,7 +268,9 @@ mod tests {
                 assert!(accepted * 4 < records);
                 assert!([5, 6, 7, 9, 10, 11, 13].iter().all(|&r| tally.refusals[r] > 20));
             } else {
-                assert_eq!(accepted, records);
+                let full = tally.refusals[13];
+                assert_eq!(accepted + full, records);
+                assert_eq!(full > 0, load.name.starts_with("nearly full"));
                 assert!(tally.grants > 0 && tally.completed_writes > 0);
             }
         }
