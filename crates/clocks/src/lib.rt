@@ -11,12 +11,12 @@ use types::World;
 ghost use mathlib.Core.Path.{_≡_};
 ghost use mathlib.Core.Bool.{false};
 ghost use Prim.Native.Nat.{_+_, _*_, _≤_, _<_};
-ghost use lib.IntN.{pos, natAbs, _+ℤ_};
-ghost use lib.ListN.{getD, set};
+ghost use lib.IntN.{natAbs};
+ghost use lib.ListN.{getD};
 ghost use Rattle.rules.specs.Conditions.{all};
-ghost use Rattle.rules.specs.Steps.{offsetAllows, hasHeard, isInTouch, isSo, ended, rowNow};
+ghost use Rattle.rules.specs.Parts.{offsetOf};
+ghost use Rattle.rules.specs.Steps.{offsetAllows, hasHeard, areInTouch, isSo, movedIn, ended, rowNow};
 ghost use Rattle.rules.proofs.Kept.{Configured};
-ghost use Rattle.world.specs.Apart.{timeIn};
 
 // Refusal 9: no clock, ahead by o, goes back or is off by more than Δ.
 pub fn does_clock_allow(c: Config, o: i32, d: u32, e: i32) -> bool
@@ -55,7 +55,7 @@ fn is_heard_by(c: Config, ts: [u32; 16], now: u32, k: u32) -> bool
 // Refusal 10: no live server is more than ν without a notice about another, by the notice times.
 pub fn is_in_touch(c: Config, ts: [u32; 16], alive: [bool; 4], now: u32) -> bool
     requires { ⌜ c .servers ≤ 4 ⌝ }
-    ensures { λ r. ⌜ r ≡ all (λ k. isInTouch c ts now k (getD alive k false)) (c .servers) ⌝ }
+    ensures { λ r. ⌜ r ≡ areInTouch c ts now (λ k. getD alive k false) ⌝ }
 {
     let count = c.servers;
     let mut ok = true;
@@ -70,8 +70,8 @@ pub fn is_in_touch(c: Config, ts: [u32; 16], alive: [bool; 4], now: u32) -> bool
 
 // True time and all clocks go on by d, and that of party p by e more.
 pub fn move_on(w: World, d: u32, p: u32, e: i32) -> World
-    requires { ⌜ (w .time + d ≤ 1000000000) × (p < 36) × (natAbs (getD (w .offsets) p (pos 0)) ≤ 1000) × (natAbs e ≤ 2000) ⌝ }
-    ensures { λ r. ⌜ r ≡ timeIn w (w .time + d) (set (w .offsets) p (getD (w .offsets) p (pos 0) +ℤ e)) ⌝ }
+    requires { ⌜ (w .time + d ≤ 1000000000) × (p < 36) × (natAbs (offsetOf (w .offsets) p) ≤ 1000) × (natAbs e ≤ 2000) ⌝ }
+    ensures { λ r. ⌜ r ≡ movedIn w d p e ⌝ }
 {
     let at = p as usize;
     let mut g = w;

@@ -6,7 +6,7 @@ use Prim.Native.Nat.{ℕ, zero, suc, _+_, _-_, _≤_, _<_}
 use native.Mathlib.Omega.{arith}
 use borrow.Author.Tests.{lt-ltb, le-leb, lt-leb}
 use lib.Dec.{T, leb, ltb, eqb, leb→le, ltb→lt, nltb→le}
-use lib.IntN.{ℤ, pos, _+ℤ_}
+use lib.IntN.{ℤ}
 use lib.ListN.{getD, set}
 use Rattle.types.specs.declared.Server.{Server}
 use Rattle.types.specs.declared.State.{State}
@@ -28,20 +28,20 @@ use Rattle.types.specs.declared.Outbox.{Outbox}
 use Rattle.types.specs.declared.World.{World}
 use Rattle.types.specs.declared.Lives.{Lives}
 use Rattle.rules.specs.Conditions.{_and_, within, unless, all}
-use Rattle.rules.specs.Clock.{plus, signed}
-use Rattle.rules.specs.Parts.{noServer, noClient, noMessage, messageAt, clientParty}
-use Rattle.rules.specs.Messages.{nothing, sentBehind, without}
+use Rattle.rules.specs.Clock.{signed}
+use Rattle.rules.specs.Parts.{noServer, noClient, noMessage, messageAt, clockOf, clientParty}
+use Rattle.rules.specs.Messages.{nothing, sentBehind, withoutIf}
 use Rattle.rules.specs.Ranges.{inRange, isServer, messageInRange, Sound}
 use Rattle.rules.specs.Server.{noticed, cleaned}
 use Rattle.rules.specs.Client.{isHolding, isOffered}
 use Rattle.rules.specs.Views.{View, whole, atHand}
-use Rattle.rules.specs.Steps.{Action, pass, fail, return, notice, discover, request, renew, deliver, lose, cleanup, unknown, action, fieldsInRange, exists, stateAllows, ofPass, timeLeft, clockAllows, inTouch, ofNotice, isCredible, interactionLeft, malformed, barred, broken, accepted, refused, delivered, deed, position, takes, takenOut, serverAfter, noticesAfter, clientAfter, nextAfter, ended, lapse, enacted, effect, step}
+use Rattle.rules.specs.Steps.{Action, pass, fail, return, notice, discover, request, renew, deliver, lose, cleanup, unknown, action, fieldsInRange, exists, stateAllows, ofPass, timeLeft, clockAllows, inTouch, ofNotice, isCredible, interactionLeft, malformed, barred, broken, accepted, refused, delivered, deed, position, takes, takenOut, serverAfter, noticesAfter, clientAfter, nextAfter, movedIn, ended, lapse, enacted, effect, step}
 use Rattle.rules.proofs.Laws.{and-l, and-r, cond-case, unless-ok}
 use Rattle.rules.proofs.Kept.{ranged}
 use Rattle.rules.proofs.Refusals.{refused-first, unless-full}
 use Rattle.rules.proofs.Delivery.{for-client}
 use Rattle.rules.proofs.Counts.{few-received, few-discovers, few-requests, few-renews, few-replied}
-use Rattle.world.specs.Apart.{facadeOf, timeIn, livesOf, placeBelow}
+use Rattle.world.specs.Apart.{facadeOf, livesOf, placeBelow}
 use Rattle.world.proofs.Laws.{place-named, sizes, waiting-high}
 use Rattle.cable.specs.Exchange.{restOf, exchanged}
 use Rattle.deeds.specs.Deeds.{eventInRange, DeedInRange}
@@ -192,10 +192,10 @@ module _ {w : World} {ss : List Server} {ys : List Client} {ms : List Message} {
           (λ q. ap (delivered (w .config)) (named-message (kept-names (atHand w l x) (deliver (s .first) (s .second)) q)))
           (λ _. refl) (λ _. refl) (λ _. refl) none
 
-      same-taken : takenOut (facadeOf w ss ys ms) (action s) ≡ cond (takes (action s)) (without (facadeOf w ss ys ms) (s .first)) (facadeOf w ss ys ms)
+      same-taken : takenOut (facadeOf w ss ys ms) (action s) ≡ withoutIf (facadeOf w ss ys ms) (s .first) (takes (action s))
       unfolding takenOut takes position
       same-taken =
-          kinds s (λ a. takenOut (facadeOf w ss ys ms) a ≡ cond (takes a) (without (facadeOf w ss ys ms) (s .first)) (facadeOf w ss ys ms))
+          kinds s (λ a. takenOut (facadeOf w ss ys ms) a ≡ withoutIf (facadeOf w ss ys ms) (s .first) (takes a))
           refl refl refl refl refl refl refl refl refl refl refl
 
       -- what is taken out is there
@@ -240,7 +240,7 @@ module _ {w : World} {ss : List Server} {ys : List Client} {ms : List Message} {
 
       -- what happens, unless the cable is full, is the answer to the step
       pub is-done : {taken : Bool} {d : Deed} → taken ≡ takes (action s) → d ≡ deed (w .config) m (action s)
-          → unlessFull (facadeOf w ss ys ms) (enacted (cond taken (without (facadeOf w ss ys ms) (s .first)) (facadeOf w ss ys ms)) d) ≡ step (facadeOf w ss ys ms) s
+          → unlessFull (facadeOf w ss ys ms) (enacted (withoutIf (facadeOf w ss ys ms) (s .first) taken) d) ≡ step (facadeOf w ss ys ms) s
       unfolding step effect unlessFull
       is-done p q = rw (p, q, ← same-taken, ← same-deed) (unless-full (facadeOf w ss ys ms) (action s) t (same-broken ∙ none))
 
@@ -250,27 +250,27 @@ none-more n = omega arith
 -- What happens in a facade taken apart, from which the message at p is taken out first if b.
 module _ (w : World) (ss : List Server) (ys : List Client) (ms : List Message) (p : ℕ) where
   abbrev pub out : Bool → Facade
-  out b = cond b (without (facadeOf w ss ys ms) p) (facadeOf w ss ys ms)
+  out b = withoutIf (facadeOf w ss ys ms) p b
 
   pub rests-is : (b : Bool) → enacted (out b) Rests ≡ settled w ss ys ms p b nothing 0
   unfolding enacted sentBehind
   rests-is true = rw (none-more (w .waiting - 1))
   rests-is false = rw (none-more (w .waiting))
 
-  pub passes-is : (b : Bool) (d q : ℕ) (e : ℤ) {g : World} {zs : List Client} → g ≡ timeIn w (w .time + d) (set (w .offsets) q (getD (w .offsets) q (pos 0) +ℤ e))
+  pub passes-is : (b : Bool) (d q : ℕ) (e : ℤ) {g : World} {zs : List Client} → g ≡ movedIn w d q e
       → zs ≡ ended (g .config) (g .time) (g .offsets) ys → enacted (out b) (Passes d q e) ≡ settled g ss zs ms p b nothing 0
   unfolding enacted lapse sentBehind
   passes-is true d q e h k = rw (k, h, none-more (w .waiting - 1))
   passes-is false d q e h k = rw (k, h, none-more (w .waiting))
 
-  pub serves-is : (b : Bool) (k : ℕ) (e : ServerEvent) {r : ℕ} {z : ServerAnswer} {ts : List ℕ} → r ≡ plus (w .time) (getD (w .offsets) k (pos 0))
+  pub serves-is : (b : Bool) (k : ℕ) (e : ServerEvent) {r : ℕ} {z : ServerAnswer} {ts : List ℕ} → r ≡ clockOf (w .time) (w .offsets) k
       → z ≡ serverAfter (w .config) (w .time) k r (getD ss k noServer) e → ts ≡ noticesAfter (w .notices) (w .time) k e
       → enacted (out b) (Serves k e) ≡ settled (noticesIn w ts) (set ss k (z .server)) ys ms p b (z .outbox) (z .outcome)
   unfolding enacted
   serves-is true k e i h j = rw (h, i, j)
   serves-is false k e i h j = rw (h, i, j)
 
-  pub asks-is : (b : Bool) (i : ℕ) (e : ClientEvent) {r n : ℕ} {z : ClientAnswer} → r ≡ plus (w .time) (getD (w .offsets) (clientParty (w .config) i) (pos 0))
+  pub asks-is : (b : Bool) (i : ℕ) (e : ClientEvent) {r n : ℕ} {z : ClientAnswer} → r ≡ clockOf (w .time) (w .offsets) (clientParty (w .config) i)
       → z ≡ clientAfter (w .config) (w .next) i r ((getD ys i noClient) .state) e → n ≡ nextAfter (w .next) e
       → enacted (out b) (Asks i e) ≡ settled (nextIn w n) ss (set ys i (z .client)) ms p b (z .outbox) (z .outcome)
   unfolding enacted
@@ -296,12 +296,12 @@ few-asked c few n i r x (Hears m) = few-replied r x m
 -- The last test, on what is put together.
 module _ (f : Facade) (w : World) (ss : List Server) (ys : List Client) (p : ℕ) (b : Bool) (o : Outbox) (n : ℕ) (e : w .waiting ≡ f .waiting) (rest : ℕ) (q : rest ≡ restOf (f .waiting) b) where
   pub settles-full : 128 < rest + o .count → refused f 13 ≡ unlessFull f (settled w ss ys (f .messages) p b o n)
-  unfolding unlessFull
+  unfolding unlessFull unless
   settles-full h = rw (e, ← q, lt-leb (rest + o .count) 128 h)
 
   pub settles : rest + o .count ≤ 128 → {g : Facade} → g ≡ facadeOf (waitingIn w (rest + o .count)) ss ys (exchanged (f .messages) p (f .waiting) b o)
       → accepted g n ≡ unlessFull f (settled w ss ys (f .messages) p b o n)
-  unfolding unlessFull
+  unfolding unlessFull unless
   settles h d = rw (d, e, ← q, le-leb (rest + o .count) 128 h)
 
 -- A step of which no rule is broken but perhaps the last, by what happens.
@@ -309,9 +309,9 @@ module _ {w : World} {ss : List Server} {ys : List Client} {ms : List Message} {
     {n : ℕ} (e : n ≡ broken (atHand w l x) (action s) 0) (z : n ≡ 0) {taken : Bool} (p : taken ≡ takes (action s)) {d : Deed} (q : d ≡ deed (w .config) m (action s))
     {a : Answer} (i : enacted (out w ss ys ms (s .first) taken) d ≡ a) where
   pub left-out : 128 < a .facade .waiting → refused (facadeOf w ss ys ms) 13 ≡ step (facadeOf w ss ys ms) s
-  unfolding unlessFull
+  unfolding unlessFull unless
   left-out u = (rw (i, lt-leb (a .facade .waiting) 128 u) at (is-done h n e z p q))
 
   pub put-in : a .facade .waiting ≤ 128 → a ≡ step (facadeOf w ss ys ms) s
-  unfolding unlessFull
+  unfolding unlessFull unless
   put-in u = (rw (i, le-leb (a .facade .waiting) 128 u) at (is-done h n e z p q))

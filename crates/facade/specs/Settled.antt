@@ -1,5 +1,5 @@
 -- What a step leaves, of a facade taken apart.
-use mathlib.Core.Bool.{Bool, cond}
+use mathlib.Core.Bool.{Bool}
 use mathlib.Core.List.{List}
 use Prim.Native.Nat.{ℕ, _+_}
 use Rattle.types.specs.declared.Server.{Server}
@@ -9,7 +9,7 @@ use Rattle.types.specs.declared.Facade.{Facade}
 use Rattle.types.specs.declared.Answer.{Answer}
 use Rattle.types.specs.declared.World.{World}
 use Rattle.types.specs.declared.Outbox.{Outbox}
-use Rattle.rules.specs.Steps.{accepted, refused, hasRoom}
+use Rattle.rules.specs.Steps.{accepted, full, unlessRefused}
 use Rattle.world.specs.Apart.{facadeOf}
 use Rattle.cable.specs.Exchange.{restOf, exchanged}
 
@@ -53,4 +53,4 @@ settled w ss ys ms p taken o n = accepted (facadeOf (waitingIn w (restOf (w .wai
 
 -- the answer a of a step of facade f, unless it is refused with 13
 unfoldable pub unlessFull : Facade → Answer → Answer
-unlessFull f a = cond (hasRoom (a .facade)) a (refused f 13)
+unlessFull f a = unlessRefused f (full (a .facade)) a

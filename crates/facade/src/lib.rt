@@ -42,7 +42,7 @@ ghost use lib.ListN.{getD};
 ghost use Rattle.types.specs.declared.Deed.the-variants.{Serves, Asks};
 ghost use Rattle.rules.specs.Conditions.{_and_};
 ghost use Rattle.rules.specs.Parts.{noClient};
-ghost use Rattle.rules.specs.Messages.{without};
+ghost use Rattle.rules.specs.Messages.{withoutIf};
 ghost use Rattle.rules.specs.Client.{isHolding};
 ghost use Rattle.rules.specs.Ranges.{inRange};
 ghost use Rattle.rules.specs.Views.{worldOf};
@@ -130,7 +130,7 @@ fn settle(
 // An event of server k.
 fn serve(f: Facade, p: u32, taken: bool, k: u32, e: ServerEvent) -> Answer
     requires { ⌜ T (inRange f) × DeedInRange (worldOf f) (Serves k e) × (T taken → p < f .waiting) ⌝ }
-    ensures { λ r. ⌜ r ≡ unlessFull f (enacted (cond taken (without f p) f) (Serves k e)) ⌝ }
+    ensures { λ r. ⌜ r ≡ unlessFull f (enacted (withoutIf f p taken) (Serves k e)) ⌝ }
 {
     let c = f.config;
     let at = k as usize;
@@ -151,7 +151,7 @@ fn serve(f: Facade, p: u32, taken: bool, k: u32, e: ServerEvent) -> Answer
 // An event of client i.
 fn ask(f: Facade, p: u32, taken: bool, i: u32, e: ClientEvent) -> Answer
     requires { ⌜ T (inRange f) × DeedInRange (worldOf f) (Asks i e) × (T taken → p < f .waiting) ⌝ }
-    ensures { λ r. ⌜ r ≡ unlessFull f (enacted (cond taken (without f p) f) (Asks i e)) ⌝ }
+    ensures { λ r. ⌜ r ≡ unlessFull f (enacted (withoutIf f p taken) (Asks i e)) ⌝ }
 {
     let c = f.config;
     let at = i as usize;
@@ -172,7 +172,7 @@ fn ask(f: Facade, p: u32, taken: bool, i: u32, e: ClientEvent) -> Answer
 // What happens in a facade in range, where the message at p is taken out first if `taken`.
 fn enact(f: Facade, p: u32, taken: bool, happens: Deed) -> Answer
     requires { ⌜ T (inRange f) × DeedInRange (worldOf f) happens × (T taken → p < f .waiting) ⌝ }
-    ensures { λ r. ⌜ r ≡ unlessFull f (enacted (cond taken (without f p) f) happens) ⌝ }
+    ensures { λ r. ⌜ r ≡ unlessFull f (enacted (withoutIf f p taken) happens) ⌝ }
 {
     let w = world_of(f);
     let ss = f.servers;

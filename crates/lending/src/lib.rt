@@ -1,5 +1,5 @@
 // What a server does with a discover, a request and a renewal: c is the configuration, k the server's number, r its clock
-// reading, s its value and b what it keeps for the address a.
+// reading and b what it keeps for the address a.
 // The message comes from party p in interaction q.
 use arith::both;
 use arith::larger;
@@ -16,15 +16,13 @@ use types::Outbox;
 use types::Pending;
 use types::Reservation;
 use types::Reserved;
-use types::Server;
-use types::ServerAnswer;
 ghost use mathlib.Core.Path.{_≡_};
 ghost use mathlib.Core.Bool.{true, false};
 ghost use Prim.Native.Nat.{_≤_, _<_};
 ghost use lib.ListN.{set, replicate};
 ghost use Rattle.rules.specs.Parts.{message};
 ghost use Rattle.rules.specs.Messages.{nothing as nothingSent, post as posted, toOthers};
-ghost use Rattle.rules.specs.Server.{hasPassed, isFree, mayOffer, onDiscover, granted, grants, reservationsBy, freedIfOf, onRenew};
+ghost use Rattle.rules.specs.Server.{hasPassed, isFree, mayOffer, onDiscover, lowestOfferable, granted, onRequest, reservationsBy, freedIfOf, onRenew};
 ghost use Rattle.rules.proofs.Kept.{Configured};
 
 // Whether the record v has passed by more than 2Δ.
@@ -52,40 +50,62 @@ fn is_offerable(c: Config, r: u32, leads: bool, state: Reserved, v: u32) -> bool
     both(leads, both(is_free(state), is_expired(c, r, v)))
 }
 
-// The lowest address that may be offered is reserved for q and offered.
-pub fn on_discover(c: Config, k: u32, r: u32, s: Server, p: u32, q: u32) -> ServerAnswer
+// The lowest address that may be offered, by what a server leads, reserves and has on record; 0 where there is none.
+pub fn lowest_offerable(
+    c: Config,
+    r: u32,
+    leads: [bool; 32],
+    reserved: [Reservation; 32],
+    records: [u32; 32],
+) -> u32
     requires { ⌜ Configured c ⌝ }
-    ensures { λ x. ⌜ x ≡ onDiscover c k r s p q ⌝ }
+    ensures { λ a. ⌜ a ≡ lowestOfferable c r leads reserved records ⌝ }
 {
-    let none = nothing();
     let n = c.addresses;
     let mut a = 0;
     while a < n {
         let at = a as usize;
-        let reservation = s.reserved[at];
+        let reservation = reserved[at];
         let state = reservation.state;
-        if is_offerable(c, r, s.leads[at], state, s.potlease[at]) {
-            let mut t = s;
-            t.reserved[at] = Reservation {
-                state: Reserved::Taken(q, r),
-            };
-            let m = Message {
-                sender: k,
-                receiver: p,
-                interaction: q,
-                body: Body::Offer(a),
-            };
-            let sent = post(none, m);
-            return ServerAnswer {
-                server: t,
-                outcome: 0,
-                outbox: sent,
-            };
+        if is_offerable(c, r, leads[at], state, records[at]) {
+            return a;
         }
         a += 1;
     }
-    ServerAnswer {
-        server: s,
+    0
+}
+
+// Address a, if it may be offered, is reserved for q and offered.
+pub fn on_discover(c: Config, k: u32, r: u32, b: Binding, p: u32, q: u32, a: u32) -> BindingAnswer
+    requires { ⌜ Configured c ⌝ }
+    ensures { λ x. ⌜ x ≡ onDiscover c k r b p q a ⌝ }
+{
+    let none = nothing();
+    let state = b.reserved;
+    if is_offerable(c, r, b.leads, state, b.potlease) {
+        let w = b.write;
+        let after = Binding {
+            leads: b.leads,
+            reserved: Reserved::Taken(q, r),
+            lent: b.lent,
+            potlease: b.potlease,
+            write: w,
+        };
+        let m = Message {
+            sender: k,
+            receiver: p,
+            interaction: q,
+            body: Body::Offer(a),
+        };
+        let sent = post(none, m);
+        return BindingAnswer {
+            binding: after,
+            outcome: 0,
+            outbox: sent,
+        };
+    }
+    BindingAnswer {
+        binding: b,
         outcome: 1,
         outbox: none,
     }
@@ -195,7 +215,7 @@ pub fn on_request(
     t: u32,
 ) -> BindingAnswer
     requires { ⌜ Configured c × (k < c .servers) × (r ≤ 1000001000) ⌝ }
-    ensures { λ x. ⌜ x ≡ grants c k r b p q a t ⌝ }
+    ensures { λ x. ⌜ x ≡ onRequest c k r b p q a t ⌝ }
 {
     if both(b.leads, is_expired(c, r, b.potlease)) {
         return grant(c, k, b, p, q, a, t, r + c.mclt);

@@ -12,7 +12,8 @@ use Rattle.types.specs.declared.World.{World}
 use Rattle.types.specs.declared.Lives.{Lives}
 use Rattle.rules.specs.Conditions.{_and_, within, unless, all}
 use Rattle.rules.specs.Parts.{parties}
-use Rattle.rules.specs.Views.{offsetIn, atHand}
+use Rattle.rules.specs.Parts.{offsetOf}
+use Rattle.rules.specs.Views.{atHand}
 use Rattle.rules.specs.Steps.{pass, notice, isKnown, fieldsInRange, exists, stateAllows, ofPass, timeLeft, offsetAllows, clockAllows, isInTouch, inTouch, isSo, ofNotice, isCredible, interactionLeft, malformed, barred}
 use Rattle.rules.proofs.Laws.{and-l, and-r, within-high, unless-ok}
 
@@ -43,11 +44,11 @@ module _ (w : World) (l : Lives) (x : State) (d p : ℕ) (e : ℤ) where
     pass-8 h = rw (lt-ltb p (parties (w .config)) h₆, lt-leb (w .time + d) 1000000000 h)
 
     module _ (h₈ : w .time + d ≤ 1000000000) where
-      pub pass-9 : offsetAllows (w .config) (offsetIn w p) d e ≡ false → 9 ≡ barred (atHand w l x) (pass d p e) 0
+      pub pass-9 : offsetAllows (w .config) (offsetOf (w .offsets) p) d e ≡ false → 9 ≡ barred (atHand w l x) (pass d p e) 0
       unfolding barred exists stateAllows ofPass timeLeft clockAllows unless
       pass-9 h = rw (lt-ltb p (parties (w .config)) h₆, le-leb (w .time + d) 1000000000 h₈, h)
 
-      module _ (h₉ : offsetAllows (w .config) (offsetIn w p) d e ≡ true) (b : Bool)
+      module _ (h₉ : offsetAllows (w .config) (offsetOf (w .offsets) p) d e ≡ true) (b : Bool)
           (q : b ≡ all (λ k. isInTouch (w .config) (w .notices) (w .time + d) k (getD (l .alive) k false)) (w .config .servers)) where
         pub pass-10 : b ≡ false → 10 ≡ barred (atHand w l x) (pass d p e) 0
         unfolding barred exists stateAllows ofPass timeLeft clockAllows inTouch unless

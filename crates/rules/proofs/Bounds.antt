@@ -20,7 +20,7 @@ use Rattle.types.specs.declared.ClientAnswer.{ClientAnswer}
 use Rattle.rules.specs.Conditions.{_and_, unless}
 use Rattle.rules.specs.Parts.{messageAt}
 use Rattle.rules.specs.Ranges.{isServer}
-use Rattle.rules.specs.Server.{noticed, cleaned, offered, offers, onDiscover, granted, grantable, grants, onRequest, onRenew, onWrite, matchesWrite, onWriteAck, serverHandles, serverReceives}
+use Rattle.rules.specs.Server.{noticed, cleaned, offerable, offered, onDiscover, granted, grantable, onRequest, onRenew, onWrite, matchesWrite, onWriteAck, handledAt, serverHandles, serverReceives}
 use Rattle.rules.specs.Client.{isHolding, discovers, requests, renews, asksWith, onOffer, expects, onAck, clientHandles}
 use Rattle.rules.specs.Steps.{Action, pass, fail, return, notice, discover, request, renew, deliver, lose, cleanup, unknown, action, delivered, deed, takes, takenOut, enacted, serverAfter, clientAfter, effect, broken, refusal, answerTo, step, malformed, barred}
 use Rattle.types.specs.declared.Deed.{Deed}
@@ -58,36 +58,20 @@ ServerLow x = x .outcome ≤ 2
 abbrev BindingLow : BindingAnswer → Type 0
 BindingLow x = x .outcome ≤ 2
 
-offers-high : (c : Config) (k r : ℕ) (s : Server) (p q a : ℕ) → ServerLow (offers c k r s p q a)
-unfolding offers offered
-offers-high c k r s p q a = cond-case ServerLow (ltb a (c .addresses)) _ _ (λ _. omega arith) (λ _. omega arith)
-
-grants-high : (c : Config) (k r : ℕ) (b : Binding) (p q a t : ℕ) → BindingLow (grants c k r b p q a t)
-unfolding grants granted
-grants-high c k r b p q a t = cond-case BindingLow (grantable c r b) _ _ (λ _. omega arith) (λ _. omega arith)
-
-renew-high : (c : Config) (k r : ℕ) (b : Binding) (p q a e t : ℕ) → BindingLow (onRenew c k r b p q a e t)
-unfolding onRenew granted
-renew-high c k r b p q a e t = cond-case BindingLow (b .leads and leb r e) _ _ (λ _. omega arith) (λ _. omega arith)
-
-write-ack-high : (c : Config) (b : Binding) (p q v : ℕ) → BindingLow (onWriteAck c b p q v)
-unfolding onWriteAck
-write-ack-high c b p q v = cond-case BindingLow (b .leads and matchesWrite q v (b .write .pending)) _ _ (λ _. omega arith) (λ _. omega arith)
-
-server-handles-high : (c : Config) (k r : ℕ) (s : Server) (p q : ℕ) (b : Body) → ServerLow (serverHandles c k r s p q b)
-unfolding serverHandles onDiscover onRequest onWrite
-server-handles-high c k r s p q Empty = omega arith
-server-handles-high c k r s p q Discover = offers-high c k r s p q _
-server-handles-high c k r s p q (Offer a) = omega arith
-server-handles-high c k r s p q (Request a t) = grants-high c k r _ p q a t
-server-handles-high c k r s p q (Renew a e t) = renew-high c k r _ p q a e t
-server-handles-high c k r s p q (Write a v) = omega arith
-server-handles-high c k r s p q (WriteAck a v) = write-ack-high c _ p q v
-server-handles-high c k r s p q (Ack a e) = omega arith
+handled-at-high : (c : Config) (k r : ℕ) (b : Binding) (p q a : ℕ) (x : Body) → BindingLow (handledAt c k r b p q a x)
+unfolding handledAt onDiscover offered onRequest granted onRenew onWrite onWriteAck
+handled-at-high c k r b p q a Empty = omega arith
+handled-at-high c k r b p q a Discover = cond-case BindingLow (offerable c r b) _ _ (λ _. omega arith) (λ _. omega arith)
+handled-at-high c k r b p q a (Offer _) = omega arith
+handled-at-high c k r b p q a (Request _ t) = cond-case BindingLow (grantable c r b) _ _ (λ _. omega arith) (λ _. omega arith)
+handled-at-high c k r b p q a (Renew _ e t) = cond-case BindingLow (b .leads and leb r e) _ _ (λ _. omega arith) (λ _. omega arith)
+handled-at-high c k r b p q a (Write _ v) = omega arith
+handled-at-high c k r b p q a (WriteAck _ v) = cond-case BindingLow (b .leads and matchesWrite q v (b .write .pending)) _ _ (λ _. omega arith) (λ _. omega arith)
+handled-at-high c k r b p q a (Ack _ e) = omega arith
 
 server-receives-high : (c : Config) (k r : ℕ) (s : Server) (m : Message) → ServerLow (serverReceives c k r s m)
-unfolding serverReceives
-server-receives-high c k r s m = cond-case ServerLow (s .alive) _ _ (λ _. server-handles-high c k r s _ _ _) (λ _. omega arith)
+unfolding serverReceives serverHandles
+server-receives-high c k r s m = cond-case ServerLow (s .alive) _ _ (λ _. handled-at-high c k r _ _ _ _ (m .body)) (λ _. omega arith)
 
 -- Outcomes of a client.
 

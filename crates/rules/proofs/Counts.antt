@@ -17,7 +17,7 @@ use Rattle.types.specs.declared.ClientAnswer.{ClientAnswer}
 use Rattle.rules.specs.Conditions.{_and_}
 use Rattle.rules.specs.Parts.{message, clientParty, leadsAt, writeAt, bindingAt}
 use Rattle.rules.specs.Messages.{nothing, post}
-use Rattle.rules.specs.Server.{writtenEnd, ackEnd, offered, offers, onDiscover, granted, dropped, grantable, grants, onRequest, onRenew, onWrite, matchesWrite, onWriteAck, serverHandles, serverReceives}
+use Rattle.rules.specs.Server.{writtenEnd, ackEnd, offerable, offered, onDiscover, granted, grantable, onRequest, onRenew, onWrite, matchesWrite, onWriteAck, handledAt, serverHandles, serverReceives}
 use Rattle.rules.specs.Client.{isHolding, broadcast, discovers, requests, renews, asksWith, onOffer, expects, onAck, clientHandles, clientReceives}
 use Rattle.rules.proofs.Laws.{cond-case}
 use Rattle.rules.proofs.Cable.{servers-count, others-count}
@@ -34,20 +34,20 @@ module _ (c : Config) (k : ℕ) (few : c .servers ≤ 4) (hk : k < c .servers) w
   few-granted b p q a t l =
       omega (arith, others-count k (λ j. message k j q (Write a (writtenEnd t l))) (post nothing (message k p q (Ack a (ackEnd t l)))) (c .servers) hk)
 
-  few-body : (r : ℕ) (s : Server) (p q : ℕ) (b : Body) → Few (serverHandles c k r s p q b)
-  unfolding serverHandles onDiscover offers offered onRequest grants onRenew onWrite onWriteAck
-  few-body r s p q Empty = omega arith
-  few-body r s p q Discover = cond-case Few (ltb _ (c .addresses)) _ _ (λ _. omega arith) (λ _. omega arith)
-  few-body r s p q (Offer a) = omega arith
-  few-body r s p q (Request a t) = cond-case FewAt (grantable c r (bindingAt (dropped c q s) a)) _ _ (λ _. few-granted _ p q a t _) (λ _. omega arith)
-  few-body r s p q (Renew a e t) = cond-case FewAt (leadsAt s a and leb r e) _ _ (λ _. few-granted _ p q a t _) (λ _. omega arith)
-  few-body r s p q (Write a v) = omega arith
-  few-body r s p q (WriteAck a v) = cond-case FewAt (leadsAt s a and matchesWrite q v ((writeAt s a) .pending)) _ _ (λ _. omega arith) (λ _. omega arith)
-  few-body r s p q (Ack a e) = omega arith
+  few-at : (r : ℕ) (b : Binding) (p q a : ℕ) (x : Body) → FewAt (handledAt c k r b p q a x)
+  unfolding handledAt onDiscover offered onRequest onRenew onWrite onWriteAck
+  few-at r b p q a Empty = omega arith
+  few-at r b p q a Discover = cond-case FewAt (offerable c r b) _ _ (λ _. omega arith) (λ _. omega arith)
+  few-at r b p q a (Offer _) = omega arith
+  few-at r b p q a (Request _ t) = cond-case FewAt (grantable c r b) _ _ (λ _. few-granted _ p q a t _) (λ _. omega arith)
+  few-at r b p q a (Renew _ e t) = cond-case FewAt (b .leads and leb r e) _ _ (λ _. few-granted _ p q a t _) (λ _. omega arith)
+  few-at r b p q a (Write _ v) = omega arith
+  few-at r b p q a (WriteAck _ v) = cond-case FewAt (b .leads and matchesWrite q v (b .write .pending)) _ _ (λ _. omega arith) (λ _. omega arith)
+  few-at r b p q a (Ack _ e) = omega arith
 
   pub few-received : (r : ℕ) (s : Server) (m : Message) → (serverReceives c k r s m) .outbox .count ≤ 4
-  unfolding serverReceives
-  few-received r s m = cond-case Few (s .alive) _ _ (λ _. few-body r s (m .sender) (m .interaction) (m .body)) (λ _. omega arith)
+  unfolding serverReceives serverHandles
+  few-received r s m = cond-case Few (s .alive) _ _ (λ _. few-at r _ (m .sender) (m .interaction) _ (m .body)) (λ _. omega arith)
 
 abbrev FewSent : ClientAnswer → Type 0
 FewSent x = x .outbox .count ≤ 4

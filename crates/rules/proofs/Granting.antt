@@ -26,10 +26,10 @@ use Rattle.rules.specs.Conditions.{_and_, all, lowest}
 use Rattle.rules.specs.Parts.{noServer, noWrite, serverAt, clock, clientParty, message, leadsAt, lentAt, recordAt, writeAt, bindingAt, withReserved, withBinding, withReservation, withLease}
 use Rattle.rules.specs.Ranges.{isClient, bodyInRange, messageInRange}
 use Rattle.rules.specs.Messages.{nothing}
-use Rattle.rules.specs.Server.{answer, bindingAnswer, atAddress, closed, opened, reservationsBy, expirySlack, hasPassed, offerable, offered, offers, onDiscover, writtenEnd, ackEnd, granted, freedIfOf, dropped, grantable, grants, onRequest, onRenew, onWrite, matchesWrite, acknowledged, onWriteAck, serverHandles, serverReceives}
+use Rattle.rules.specs.Server.{answer, bindingAnswer, atAddress, closed, opened, reservationsBy, expirySlack, hasPassed, offerable, offered, onDiscover, addressFor, addressOf, handledAt, isRequest, writtenEnd, ackEnd, granted, freedIfOf, dropped, grantable, onRequest, onRenew, onWrite, matchesWrite, acknowledged, onWriteAck, serverHandles, serverReceives}
 use Rattle.rules.proofs.Laws.{Or, inl, inr, and-l, and-r, cond-case, all-at, set-case, set-any, rep-ind}
 use Rattle.rules.proofs.Cable.{Waits, Posted, ToServer, posted-nothing, posted-one, posted-others}
-use Rattle.rules.proofs.Kept.{Configured, configured, Ranged}
+use Rattle.rules.proofs.Kept.{address-low, Configured, configured, Ranged}
 use Rattle.rules.proofs.Leadership.{OneLeader, clock-low, clock-high}
 use Rattle.rules.proofs.Leases.{World, world, srv, Cov, Says, Promises, Claim, holds, sent, CountOk, OpenOk, BodyOk, Leased, Grows, cov-grows, count-grows, body-grows, servedBy, Raised, served-grows, served, quiet, still}
 
@@ -130,15 +130,13 @@ module _ (f : Facade) (g : Ranged f) (four : length (f .servers) ≡ 4) (one : O
 
   -- Discover: the address is reserved, and an offer promises nothing.
 
-  pub keeps-discover : (p q : ℕ) → Keeps (onDiscover (f .config) k (clock f k) (serverAt f k) p q)
-  unfolding onDiscover offers offered lender
-  keeps-discover p q =
-      let a : ℕ = lowest (λ a. offerable (f .config) (clock f k) (bindingAt (serverAt f k) a)) 0 (f .config .addresses) in
-      cond-case Keeps (ltb a (f .config .addresses)) _ _
-      (λ h. let ha = ltb→lt a (f .config .addresses) h in
-      unpromised a ha ((serverAt f k) .reserved) (withReservation (bindingAt (serverAt f k) a) (Taken q (clock f k))) refl (le-refl _) 0 _ (v .lents k a hk ha) (v .opens k a hk ha)
+  pub keeps-discover : (p q a : ℕ) → a < f .config .addresses → Keeps (atAddress (serverAt f k) a (onDiscover (f .config) k (clock f k) (bindingAt (serverAt f k) a) p q a))
+  unfolding onDiscover offered lender
+  keeps-discover p q a ha =
+      cond-case (λ x. Keeps (atAddress (serverAt f k) a x)) (offerable (f .config) (clock f k) (bindingAt (serverAt f k) a)) _ _
+      (λ _. unpromised a ha ((serverAt f k) .reserved) (withReservation (bindingAt (serverAt f k) a) (Taken q (clock f k))) refl (le-refl _) 0 _ (v .lents k a hk ha) (v .opens k a hk ha)
       (λ m x. rw (← posted-one (message k p q (Offer a)) m x) (tt, λ i a e c. c)))
-      (λ _. silent ((serverAt f k) .reserved) 1)
+      (λ _. unchanged a ha ((serverAt f k) .reserved) 1)
 
   -- A grant to party p: k leads a, the lent end l is covered, and every promise of a to another client is over.
 
@@ -244,8 +242,9 @@ module _ (f : Facade) (g : Ranged f) (four : length (f .servers) ≡ 4) (one : O
     unfolding granted after grantor lender new-binding new-record new-write
     keeps-grant sub = granted-leased sub
 
-  pub keeps-request : T ((serverAt f k) .alive) → (p q a t : ℕ) → a < f .config .addresses → Keeps (onRequest (f .config) k (clock f k) (serverAt f k) p q a t)
-  unfolding onRequest grants dropped grantable
+  pub keeps-request : T ((serverAt f k) .alive) → (p q a t : ℕ) → a < f .config .addresses
+      → Keeps (atAddress (dropped (f .config) q (serverAt f k)) a (onRequest (f .config) k (clock f k) (bindingAt (dropped (f .config) q (serverAt f k)) a) p q a t))
+  unfolding onRequest dropped grantable
   keeps-request al p q a t ha =
       let rs : List Reservation = reservationsBy (freedIfOf q) (f .config .addresses) ((serverAt f k) .reserved) in
       cond-case (λ x. Keeps (atAddress (dropped (f .config) q (serverAt f k)) a x)) (leadsAt (serverAt f k) a and hasPassed (f .config) (clock f k) (recordAt (serverAt f k) a)) _ _
@@ -324,17 +323,17 @@ module _ (f : Facade) (g : Ranged f) (four : length (f .servers) ≡ 4) (one : O
   module _ (al : T ((serverAt f k) .alive)) (from to q : ℕ) where
     keeps-body : (b : Body) → T (bodyInRange (f .config) from to b) → ((i a e : ℕ) → Says (f .config) from to b i a e → Claim (world f) i a e) → BodyOk (world f) from b
         → Keeps (serverHandles (f .config) k (clock f k) (serverAt f k) from q b)
-    unfolding serverHandles bodyInRange isClient
+    unfolding serverHandles handledAt isRequest addressFor bodyInRange isClient
     keeps-body Empty t cl ok = absurd t
-    keeps-body Discover t cl ok = keeps-discover from q
-    keeps-body (Offer a) t cl ok = silent ((serverAt f k) .reserved) 1
+    keeps-body Discover t cl ok = keeps-discover from q _ (address-low (f .config) (configured (f .config) (g .config)) from to _ _ _ _ Discover t)
+    keeps-body (Offer a) t cl ok = unchanged a (ltb→lt a _ (and-r _ _ (and-r _ _ t))) ((serverAt f k) .reserved) 1
     keeps-body (Request a w) t cl ok = keeps-request al from q a w (ltb→lt a _ (and-l _ _ (and-r _ _ (and-r _ _ t))))
     keeps-body (Renew a e w) t cl ok =
         let is : from ≡ clientParty (f .config) (from - f .config .servers) = omega (arith, leb→le (f .config .servers) from (and-l _ _ (and-l _ _ t))) in
         rw is (keeps-renew al (from - f .config .servers) q a e w (ltb→lt a _ (and-l _ _ (and-r _ _ (and-r _ _ t)))) (cl (from - f .config .servers) a e (is, refl, refl)))
     keeps-body (Write a e) t cl ok = keeps-write from q a e (ltb→lt a _ (and-l _ _ (and-r _ _ (and-r _ _ t))))
     keeps-body (WriteAck a e) t cl ok = keeps-write-ack from q a e (ltb→lt a _ (and-l _ _ (and-r _ _ (and-r _ _ t)))) ok
-    keeps-body (Ack a e) t cl ok = silent ((serverAt f k) .reserved) 1
+    keeps-body (Ack a e) t cl ok = unchanged a (ltb→lt a _ (and-l _ _ (and-r _ _ (and-r _ _ t)))) ((serverAt f k) .reserved) 1
 
   pub keeps-receive : (m : Message) → Waits f m → Keeps (serverReceives (f .config) k (clock f k) (serverAt f k) m)
   unfolding serverReceives messageInRange

@@ -2,22 +2,28 @@
 use mathlib.Core.Path.{_≡_, refl}
 use mathlib.Core.Bool.{Bool, true, false, cond}
 use mathlib.Core.Logic.{_≢_}
+use mathlib.Core.List.{List}
 use Prim.Native.Nat.{ℕ, _+_, _-_, _≤_, _<_}
 use native.Mathlib.Omega.{arith}
 use native.Mathlib.Decide.{ℕ-discrete}
 use lib.ListN.{getD, replicate, getD-replicate}
-use lib.Dec.{T, leb, eqb, leb→le, le→leb, eqb→eq, eqb-refl}
+use borrow.Author.Tests.{ltb-true}
+use lib.Dec.{T, leb, ltb, eqb, leb→le, le→leb, ltb→lt, eqb→eq, eqb-refl}
+use Rattle.types.specs.declared.Reservation.{Reservation}
 use Rattle.types.specs.declared.Server.{Server}
+use Rattle.types.specs.declared.Body.{Body}
+use Rattle.types.specs.declared.Body.the-variants.{Empty, Discover, Offer, Request, Renew, Write, WriteAck, Ack}
 use Rattle.types.specs.declared.Message.{Message}
 use Rattle.types.specs.declared.Facade.{Facade}
 use Rattle.rules.specs.Conditions.{within, all}
 use Rattle.rules.specs.Parts.{noServer, parties, serverAt, stateAt, messageAt, offsetAt, noticeAt}
 use Rattle.types.specs.declared.Answer.{Answer}
 use Rattle.types.specs.declared.Config.{Config}
-use Rattle.rules.specs.Messages.{without}
+use Rattle.rules.specs.Messages.{withoutIf}
 use Rattle.rules.specs.Views.{whole}
-use Rattle.rules.specs.Ranges.{configInRange, offsetInRange, serverInRange, noticeInRange, stateInRange, messageInRange, inRange, lastTime, lastInteraction, mostWaiting}
-use Rattle.rules.specs.Steps.{freshServer, Action, deliver, delivered, deed, takes, position, takenOut, enacted, isKnown, fieldsInRange, exists, stateAllows, ofPass, timeLeft, clockAllows, inTouch, ofNotice, isCredible, interactionLeft, roomLeft, effect, broken, refusal, malformed, barred}
+use Rattle.rules.specs.Ranges.{configInRange, offsetInRange, serverInRange, noticeInRange, stateInRange, bodyInRange, messageInRange, inRange, lastTime, lastInteraction, mostWaiting}
+use Rattle.rules.specs.Server.{lowestOfferable, addressFor}
+use Rattle.rules.specs.Steps.{freshServer, Action, deliver, delivered, deed, takes, position, takenOut, enacted, isKnown, fieldsInRange, exists, stateAllows, ofPass, timeLeft, clockAllows, inTouch, ofNotice, isCredible, interactionLeft, effect, broken, refusal, malformed, barred}
 use Rattle.rules.proofs.Laws.{and-l, and-r, and-both, or-elim, or-l, or-r, within-low, within-high, unless-ok, all-at, all-by}
 use Rattle.rules.proofs.Cable.{Waits}
 
@@ -114,18 +120,38 @@ in-range f v =
     (and-both _ _ (all-by _ _ (v .client))
     (all-by _ _ (λ p h. v .message (messageAt f p) (record { at = p; below = h; is = refl }))))))))))
 
+-- The address that a message in range is about is one of the addresses.
+found-low : (n m : ℕ) (b : Bool) → 1 ≤ m → ltb n m ≡ b → cond b n 0 < m
+found-low n m true h e = ltb-true n m e
+found-low n m false h e = omega arith
+
+module _ (c : Config) (ok : Configured c) (from to r : ℕ) (leads : List Bool) (reserved : List Reservation) (records : List ℕ) where
+  pub address-low : (x : Body) → T (bodyInRange c from to x) → addressFor c r leads reserved records x < c .addresses
+  unfolding bodyInRange addressFor lowestOfferable
+  address-low Empty t = absurd t
+  address-low Discover t = found-low _ _ _ (ok .addresses-low) refl
+  address-low (Offer a) t = ltb→lt a _ (and-r _ _ (and-r _ _ t))
+  address-low (Request a w) t = ltb→lt a _ (and-l _ _ (and-r _ _ (and-r _ _ t)))
+  address-low (Renew a e w) t = ltb→lt a _ (and-l _ _ (and-r _ _ (and-r _ _ t)))
+  address-low (Write a v) t = ltb→lt a _ (and-l _ _ (and-r _ _ (and-r _ _ t)))
+  address-low (WriteAck a v) t = ltb→lt a _ (and-l _ _ (and-r _ _ (and-r _ _ t)))
+  address-low (Ack a e) t = ltb→lt a _ (and-l _ _ (and-r _ _ (and-r _ _ t)))
+
+  pub address-place : (a : ℕ) (x : Body) → a ≡ addressFor c r leads reserved records x → T (bodyInRange c from to x) → a < 32
+  address-place a x e t = rw e (omega (arith, ok .addresses-high, address-low x t))
+
 -- A delivery: the message is handled in the facade that it was taken out of.
 
 abbrev pub handled : Facade → Message → Answer
 handled f m = enacted f (delivered (f .config) m)
 
 abbrev pub takenIf : Facade → ℕ → ℕ → Facade
-takenIf f p keep = cond (eqb keep 0) (without f p) f
+takenIf f p keep = withoutIf f p (eqb keep 0)
 
 pub deliver-is : (f : Facade) (p keep : ℕ) → effect f (deliver p keep) ≡ handled (takenIf f p keep) (messageAt f p)
 unfolding effect deed takes position takenOut
 deliver-is f p keep = go (eqb keep 0) where
-  go : (b : Bool) → enacted (cond b (without f p) f) (delivered (f .config) (messageAt f p)) ≡ handled (cond b (without f p) f) (messageAt f p)
+  go : (b : Bool) → enacted (withoutIf f p b) (delivered (f .config) (messageAt f p)) ≡ handled (withoutIf f p b) (messageAt f p)
   go true = refl
   go false = refl
 
@@ -145,7 +171,7 @@ pub record Kept (f : Facade) (x : Action) : Type 0 where
   pub room : (effect f x) .facade .waiting ≤ mostWaiting
 
 pub kept : (f : Facade) (x : Action) → refusal f x ≡ 0 → Kept f x
-unfolding refusal broken malformed barred roomLeft
+unfolding refusal broken malformed barred
 kept f x e =
     let t₂ = unless-ok _ _ _ (omega arith) e in
     let t₄ = unless-ok _ _ _ (omega arith) (t₂ .1) in

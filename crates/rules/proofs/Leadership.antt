@@ -26,7 +26,7 @@ use Rattle.rules.specs.Parts.{noServer, believes, leadsAt, serverAt, mes
 use Rattle.rules.specs.Ranges.{offsetInRange, isServer}
 use Rattle.rules.specs.Messages.{removed, without}
 use Rattle.rules.specs.Order.{rank, isFirst}
-use Rattle.rules.specs.Server.{leadDelay, leadsAfter, leadingWith, noticed, afterReturn, cleaned, offered, offers, onDiscover, granted, dropped, grantable, grants, onRequest, onRenew, onWrite, matchesWrite, acknowledged, onWriteAck, serverHandles, serverReceives}
+use Rattle.rules.specs.Server.{atAddress, leadDelay, leadsAfter, leadingWith, noticed, afterReturn, cleaned, offerable, offered, onDiscover, granted, dropped, grantable, onRequest, onRenew, onWrite, matchesWrite, acknowledged, onWriteAck, handledAt, isRequest, readied, addressOf, serverHandles, serverReceives}
 use Rattle.rules.specs.Steps.{Action, pass, fail, return, notice, discover, request, renew, deliver, lose, cleanup, unknown, fresh, exists, ofPass, clockAllows, inTouch, ofNotice, isCredible, rowNow, lapse, delivered, deed, takes, takenOut, enacted, serverAfter, noticesAfter, clientAfter, nextAfter, effect, ended, lapsedAt}
 use Rattle.types.specs.declared.Deed.{Deed}
 use Rattle.rules.proofs.Laws.{and-l, and-r, or-elim, clash, not-eqb, cond-case, all-at, set-case, set-any, rep-ind, rep-true, rep-false, length-filled, filled-at}
@@ -147,26 +147,32 @@ module _ (c : Config) (k r : ℕ) (s : Server) where
   abbrev SameCore : ServerAnswer → Type 0
   SameCore x = coreOf (x .server) ≡ coreOf s
 
-  abbrev SameLead : ℕ → BindingAnswer → Type 0
-  SameLead a x = x .binding .leads ≡ leadsAt s a
+  abbrev SameLead : Binding → BindingAnswer → Type 0
+  SameLead b x = x .binding .leads ≡ b .leads
 
   core-at : (a : ℕ) (l : Bool) → l ≡ leadsAt s a → coreOf (withLeading s (s .believed) (set (s .leads) a l) (s .potlease)) ≡ coreOf s
   core-at a l e = rw (e, set-getD (s .leads) a false)
 
-  core-body : (p q : ℕ) (b : Body) → SameCore (serverHandles c k r s p q b)
-  unfolding serverHandles onDiscover offers offered onRequest grants dropped granted onRenew onWrite onWriteAck acknowledged
-  core-body p q Empty = refl
-  core-body p q Discover = cond-case SameCore (ltb _ (c .addresses)) _ _ (λ _. core-at _ _ refl) (λ _. refl)
-  core-body p q (Offer a) = refl
-  core-body p q (Request a t) =
-      core-at a _ (cond-case (SameLead a) (grantable c r (bindingAt (dropped c q s) a)) _ _ (λ _. refl) (λ _. refl))
-  core-body p q (Renew a e t) = core-at a _ (cond-case (SameLead a) (leadsAt s a and leb r e) _ _ (λ _. refl) (λ _. refl))
-  core-body p q (Write a v) = core-at a _ refl
-  core-body p q (WriteAck a v) = core-at a _
-      (cond-case (SameLead a) (leadsAt s a and matchesWrite q v ((writeAt s a) .pending)) _ _
-      (λ _. cond-case (λ (b : Binding). b .leads ≡ leadsAt s a) (all _ (c .servers)) _ _ (λ _. refl) (λ _. refl))
-      (λ _. refl))
-  core-body p q (Ack a e) = refl
+  lead-at : (b : Binding) (p q a : ℕ) (x : Body) → (handledAt c k r b p q a x) .binding .leads ≡ b .leads
+  unfolding handledAt onDiscover offered onRequest granted onRenew onWrite onWriteAck acknowledged
+  lead-at b p q a Empty = refl
+  lead-at b p q a Discover = cond-case (SameLead b) (offerable c r b) _ _ (λ _. refl) (λ _. refl)
+  lead-at b p q a (Offer _) = refl
+  lead-at b p q a (Request _ t) = cond-case (SameLead b) (grantable c r b) _ _ (λ _. refl) (λ _. refl)
+  lead-at b p q a (Renew _ e t) = cond-case (SameLead b) (b .leads and leb r e) _ _ (λ _. refl) (λ _. refl)
+  lead-at b p q a (Write _ v) = refl
+  lead-at b p q a (WriteAck _ v) =
+      cond-case (SameLead b) (b .leads and matchesWrite q v (b .write .pending)) _ _
+      (λ _. cond-case (λ (d : Binding). d .leads ≡ b .leads) (all _ (c .servers)) _ _ (λ _. refl) (λ _. refl))
+      (λ _. refl)
+  lead-at b p q a (Ack _ e) = refl
+
+  core-body : (p q : ℕ) (x : Body) → SameCore (serverHandles c k r s p q x)
+  unfolding serverHandles dropped
+  core-body p q x = core-go (isRequest x) where
+    core-go : (d : Bool) → SameCore (atAddress (cond d (dropped c q s) s) (addressOf c r s x) (handledAt c k r (bindingAt (cond d (dropped c q s) s) (addressOf c r s x)) p q (addressOf c r s x) x))
+    core-go true = core-at _ _ (lead-at _ p q _ x)
+    core-go false = core-at _ _ (lead-at _ p q _ x)
 
   pub core-received : (m : Message) → SameCore (serverReceives c k r s m)
   unfolding serverReceives

@@ -37,13 +37,13 @@ use Rattle.rules.specs.Parts.{noServer, noReservation, noWrite, noClient
 use Rattle.rules.specs.Ranges.{configInRange, interactionInRange, offsetInRange, reservationInRange, writeInRange, addressInRange, serverInRange, stateInRange, isServer, isClient, bodyInRange, messageInRange, inRange, endInRange, readingInRange, lastTime, lastInteraction, mostWaiting, Sound}
 use Rattle.types.specs.declared.Deed.{Deed}
 use Rattle.rules.specs.Messages.{nothing, post, sendAll, without}
-use Rattle.rules.specs.Server.{answer, bindingAnswer, atAddress, closed, leadRecord, leadsAfter, recordAfter, leadingWith, noticed, afterReturn, reservationsBy, freedIfOld, cleaned, offerable, offered, offers, onDiscover, granted, freedIfOf, dropped, grantable, grants, onRequest, onRenew, onWrite, matchesWrite, acknowledged, onWriteAck, serverHandles, serverReceives}
+use Rattle.rules.specs.Server.{answer, bindingAnswer, atAddress, closed, leadRecord, leadsAfter, recordAfter, leadingWith, noticed, afterReturn, reservationsBy, freedIfOld, cleaned, offerable, offered, onDiscover, addressFor, addressOf, handledAt, isRequest, granted, freedIfOf, dropped, grantable, onRequest, onRenew, onWrite, matchesWrite, acknowledged, onWriteAck, serverHandles, serverReceives}
 use Rattle.rules.specs.Client.{isHolding, reply, broadcast, lapsed, discovers, requests, renews, asksWith, onOffer, expects, onAck, clientHandles}
 use Rattle.rules.specs.Steps.{freshServer, fresh, Action, pass, fail, return, notice, discover, request, renew, deliver, lose, cleanup, unknown, action, fieldsInRange, exists, ofPass, timeLeft, clockAllows, interactionLeft, accepted, serverActs, clientActs, lapse, rowNow, delivered, deed, takes, position, takenOut, enacted, serverAfter, noticesAfter, clientAfter, nextAfter, effect, broken, refusal, answerTo, step, run, malformed, ended, barred, lapsedAt}
 use Rattle.rules.proofs.Laws.{Or, inl, inr, and-l, and-r, and-both, cond-case, all-at, all-by, set-any, rep-ind, filled-any}
 use Rattle.rules.proofs.Clocks.{plus-high, not-negative-later, not-negative-sum}
 use Rattle.rules.proofs.Cable.{Waits, Posted, ToServer, length-sent, waits-sent, length-removed, waits-removed, posted-nothing, posted-one, posted-each, posted-others}
-use Rattle.rules.proofs.Kept.{handled, deliver-is, Configured, configured, Ranged, ranged, in-range, Kept, kept}
+use Rattle.rules.proofs.Kept.{address-low, handled, deliver-is, Configured, configured, Ranged, ranged, in-range, Kept, kept}
 
 -- tests as bounds, for omega
 ruleset bounds = (arith, leb→le, ltb→lt, le→leb, lt→ltb)
@@ -248,15 +248,15 @@ module _ (c : Config) (t n : ℕ) where
               (and-both _ _ hk (and-both _ _ (lt→ltb (x .to) (c .servers) (x .below)) (and-both _ _ ha high))))
 
       handles-fit : (s : Server) → Stored c t n s → (p : ℕ) (b : Body) → T (bodyInRange c p k b) → ServerFits c t n (serverHandles c k r s p q b)
-      unfolding serverHandles onDiscover offers offered onRequest grants dropped freedIfOf onRenew onWrite onWriteAck acknowledged reservationInRange writeInRange bodyInRange
+      unfolding serverHandles handledAt isRequest addressFor onDiscover offered onRequest dropped freedIfOf onRenew onWrite onWriteAck acknowledged reservationInRange writeInRange bodyInRange
       handles-fit s v p Discover x =
-          cond-case (ServerFits c t n) (ltb (lowest (λ a. offerable c r (bindingAt s a)) 0 (c .addresses)) (c .addresses)) _ _
-          (λ ha. let b = binding-at s v _ (ltb→lt _ _ ha) in
-          at-address s v _ _ (record {
+          let ha : addressOf c r s Discover < c .addresses = address-low c g p k r _ _ _ Discover x in let b = binding-at s v _ ha in
+          at-address s v _ _ (cond-case (BindingFits c n) (offerable c r (bindingAt s (addressOf c r s Discover))) _ _
+          (λ _. record {
             binding = record { reserved = and-both _ _ u hr; lent = b .lent; potlease = b .potlease; write = b .write };
-            sends = sends-one p (Offer _) (and-both _ _ hk (and-both _ _ (and-l _ _ x) ha));
-          }))
-          (λ _. silent s v 1)
+            sends = sends-one p (Offer _) (and-both _ _ hk (and-both _ _ (and-l _ _ x) (lt→ltb _ _ ha)));
+          })
+          (λ _. silent-at _ b 1))
       handles-fit s v p (Request a w) x =
           let y = and-r _ _ (and-r _ _ x) in
           let v′ : Stored c t n (dropped c q s) = fewer s v (freedIfOf q) (λ q′ r′. eqb q′ q) refl (λ q′ r′. refl) in
@@ -280,9 +280,9 @@ module _ (c : Config) (t n : ℕ) where
           (λ _. record { reserved = b .reserved; lent = omega bounds; potlease = b .potlease; write = tt })
           (λ _. record { reserved = b .reserved; lent = b .lent; potlease = b .potlease; write = and-both _ _ u he })) 0)
           (λ _. silent-at _ b 1))
-      handles-fit s v p Empty x = silent s v 1
-      handles-fit s v p (Offer a) x = silent s v 1
-      handles-fit s v p (Ack a e) x = silent s v 1
+      handles-fit s v p Empty x = absurd x
+      handles-fit s v p (Offer a) x = at-address s v a _ (silent-at _ (binding-at s v a (ltb→lt a _ (and-r _ _ (and-r _ _ x)))) 1)
+      handles-fit s v p (Ack a e) x = at-address s v a _ (silent-at _ (binding-at s v a (ltb→lt a _ (and-l _ _ (and-r _ _ (and-r _ _ x))))) 1)
 
 -- What a client does: client i, in state x.
 

@@ -10,7 +10,7 @@ use Rattle.types.specs.declared.Answer.{Answer}
 use Rattle.rules.specs.Conditions.{unless}
 use Rattle.rules.specs.Views.{View, whole}
 use Rattle.rules.specs.Ranges.{inRange}
-use Rattle.rules.specs.Steps.{Action, isKnown, fieldsInRange, exists, stateAllows, ofPass, timeLeft, clockAllows, inTouch, ofNotice, isCredible, interactionLeft, malformed, barred, broken, effect, hasRoom, roomLeft, refused, refusal, answerTo}
+use Rattle.rules.specs.Steps.{Action, isKnown, fieldsInRange, exists, stateAllows, ofPass, timeLeft, clockAllows, inTouch, ofNotice, isCredible, interactionLeft, malformed, barred, broken, effect, full, refused, refusal, unlessRefused, answerTo}
 use Rattle.rules.proofs.Laws.{true-of}
 
 -- a rule and what comes below it, where something may come below that
@@ -42,12 +42,6 @@ module _ (v : View) (x : Action) where
   unfolding broken
   then-barred a e m r q = rw (e, malformed-over x (barred v x 0) 0 (barred v x 0) refl, rw e at m) q
 
--- refusal 13 comes last
-full : (b : Bool) (y : Answer) (f : Facade) → cond b y (refused f 13) ≡ cond (eqb (unless b 13 0) 0) y (refused f (unless b 13 0))
-unfolding unless
-full true y f = refl
-full false y f = refl
-
 module _ (f : Facade) (x : Action) where
   pub refused-2 : inRange f ≡ false → refused f 2 ≡ answerTo f x
   unfolding answerTo refusal unless
@@ -56,9 +50,9 @@ module _ (f : Facade) (x : Action) where
   module _ (t : T (inRange f)) where
     pub refused-first : (n : ℕ) → n ≡ broken (whole f) x 0 → (n ≡ 0 → ⊥) → refused f n ≡ answerTo f x
     unfolding answerTo refusal unless
-    refused-first n e h = rw (true-of (inRange f) t, broken-over (whole f) x (unless (roomLeft f x) 13 0), ← e, ne-eqb n 0 h, ne-eqb n 0 h)
+    refused-first n e h = rw (true-of (inRange f) t, broken-over (whole f) x (full ((effect f x) .facade)), ← e, ne-eqb n 0 h, ne-eqb n 0 h)
 
-    -- the last test is made on the effect
-    pub unless-full : broken (whole f) x 0 ≡ 0 → cond (hasRoom ((effect f x) .facade)) (effect f x) (refused f 13) ≡ answerTo f x
-    unfolding answerTo refusal roomLeft unless
-    unless-full e = rw (true-of (inRange f) t, broken-over (whole f) x (unless (hasRoom ((effect f x) .facade)) 13 0), e) (full (hasRoom ((effect f x) .facade)) (effect f x) f)
+    -- refusal 13 comes last, and is tested on the effect
+    pub unless-full : broken (whole f) x 0 ≡ 0 → unlessRefused f (full ((effect f x) .facade)) (effect f x) ≡ answerTo f x
+    unfolding answerTo refusal unless
+    unless-full e = rw (true-of (inRange f) t, broken-over (whole f) x (full ((effect f x) .facade)), e)

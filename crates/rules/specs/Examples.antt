@@ -23,13 +23,13 @@ use Rattle.rules.specs.Parts.{noReservation, serverAt, stateAt, leadsAt,
 use Rattle.rules.specs.Ranges.{configInRange, interactionInRange, offsetInRange, reservationInRange, writeInRange, addressInRange, serverInRange, noticeInRange, stateInRange, isClient, bodyInRange, messageInRange, inRange}
 use Rattle.rules.specs.Order.{rank, isFirst}
 use Rattle.rules.specs.Messages.{postUnless, toServers, sentBehind, removed}
-use Rattle.rules.specs.Server.{closed, leadsAfter, recordAfter, leadingWith, noticed, afterReturn, freedIfOld, cleaned, isFree, offerable, offered, offers, onDiscover, granted, freedIfOf, dropped, grantable, grants, onRequest, onRenew, onWrite, matchesWrite, acknowledged, onWriteAck, serverHandles, serverReceives}
+use Rattle.rules.specs.Server.{closed, leadsAfter, recordAfter, leadingWith, noticed, afterReturn, freedIfOld, cleaned, isFree, offerable, offered, onDiscover, lowestOfferable, granted, freedIfOf, dropped, grantable, onRequest, onRenew, onWrite, matchesWrite, acknowledged, onWriteAck, addressFor, handledAt, isRequest, serverHandles, serverReceives}
 use Rattle.rules.specs.Client.{isOffered, isHolding, lapsed, discovers, requests, renews, asksWith, onOffer, expects, onAck, clientHandles}
-use Rattle.rules.specs.Steps.{fresh, action, isKnown, fieldsInRange, exists, stateAllows, ofPass, timeLeft, clockAllows, inTouch, isCredible, ofNotice, interactionLeft, lapse, rowNow, delivered, deed, takes, position, takenOut, enacted, serverAfter, noticesAfter, clientAfter, nextAfter, effect, roomLeft, broken, refusal, answerTo, step, run, ended, malformed, barred, lapsedAt}
+use Rattle.rules.specs.Steps.{fresh, action, isKnown, fieldsInRange, exists, stateAllows, ofPass, timeLeft, clockAllows, inTouch, isCredible, ofNotice, interactionLeft, lapse, rowNow, delivered, deed, takes, position, takenOut, enacted, serverAfter, noticesAfter, clientAfter, nextAfter, effect, broken, refusal, answerTo, step, run, ended, malformed, barred, lapsedAt}
 
 -- the answer to a step; to open this one is to open every rule that it takes
 unfoldable pub answered : Facade → Step → Answer
-unfolding _and_ _or_ within unless all lowest filled signed configInRange interactionInRange offsetInRange reservationInRange writeInRange addressInRange serverInRange noticeInRange stateInRange isClient bodyInRange messageInRange inRange rank isFirst postUnless toServers sentBehind removed leadsAfter recordAfter leadingWith noticed afterReturn freedIfOld cleaned isFree offerable offered offers onDiscover granted freedIfOf dropped grantable grants onRequest onRenew onWrite matchesWrite acknowledged onWriteAck serverHandles serverReceives lapsed discovers requests renews asksWith onOffer expects onAck clientHandles fresh action isKnown fieldsInRange exists isOffered isHolding stateAllows ofPass timeLeft clockAllows inTouch isCredible ofNotice interactionLeft lapse lapsedAt ended rowNow delivered deed takes position takenOut enacted serverAfter noticesAfter clientAfter nextAfter effect roomLeft broken malformed barred refusal answerTo step run
+unfolding _and_ _or_ within unless all lowest filled signed configInRange interactionInRange offsetInRange reservationInRange writeInRange addressInRange serverInRange noticeInRange stateInRange isClient bodyInRange messageInRange inRange rank isFirst postUnless toServers sentBehind removed leadsAfter recordAfter leadingWith noticed afterReturn freedIfOld cleaned isFree offerable offered onDiscover lowestOfferable granted freedIfOf dropped grantable onRequest onRenew onWrite matchesWrite acknowledged onWriteAck addressFor handledAt isRequest serverHandles serverReceives lapsed discovers requests renews asksWith onOffer expects onAck clientHandles fresh action isKnown fieldsInRange exists isOffered isHolding stateAllows ofPass timeLeft clockAllows inTouch isCredible ofNotice interactionLeft lapse lapsedAt ended rowNow delivered deed takes position takenOut enacted serverAfter noticesAfter clientAfter nextAfter effect broken malformed barred refusal answerTo step run
 answered f s = step f s
 
 -- The ten steps by their numbers. A signed field is in two's complement.

@@ -1,5 +1,5 @@
 -- Messages: the outbox of a party, and the waiting messages of the facade in the order sent.
-use mathlib.Core.Bool.{Bool, true, false}
+use mathlib.Core.Bool.{Bool, true, false, cond}
 use mathlib.Core.List.{List, _∷_, _++_}
 use Prim.Native.Nat.{ℕ, zero, suc, _+_, _-_}
 use lib.Dec.{eqb}
@@ -49,3 +49,7 @@ removed ms p n = take p ms ++ take (n - suc p) (drop (suc p) ms) ++ noMessage �
 -- the facade without the message at position p
 abbrev pub without : Facade → ℕ → Facade
 without f p = withMessages f (removed (f .messages) p (f .waiting)) (f .waiting - 1)
+
+-- the same if it is taken out
+abbrev pub withoutIf : Facade → ℕ → Bool → Facade
+withoutIf f p taken = cond taken (without f p) f

@@ -148,12 +148,19 @@ stateAt f i = (getD (f .clients) i noClient) .state
 abbrev pub messageAt : Facade → ℕ → Message
 messageAt f p = getD (f .messages) p noMessage
 
--- the amount by which the clock of party p is ahead
+-- the amount by which the clock of party p is ahead, by the offsets os and of a facade
+abbrev pub offsetOf : List ℤ → ℕ → ℤ
+offsetOf os p = getD os p (pos 0)
+
 abbrev pub offsetAt : Facade → ℕ → ℤ
-offsetAt f p = getD (f .offsets) p (pos 0)
+offsetAt f p = offsetOf (f .offsets) p
+
+-- its clock, at true time t and of a facade
+abbrev pub clockOf : ℕ → List ℤ → ℕ → ℕ
+clockOf t os p = plus t (offsetOf os p)
 
 abbrev pub clock : Facade → ℕ → ℕ
-clock f p = plus (f .time) (offsetAt f p)
+clock f p = clockOf (f .time) (f .offsets) p
 
 -- the true time at which server k last had a notice about server j, by the notice times ts and of a facade
 abbrev pub noticeIn : List ℕ → ℕ → ℕ → ℕ

@@ -142,13 +142,20 @@ offerable c r b = mayOffer c r (b .leads) (b .reserved) (b .potlease)
 unfoldable pub offered : ℕ → ℕ → Binding → ℕ → ℕ → ℕ → BindingAnswer
 offered k r b p q a = bindingAnswer (withReservation b (Taken q r)) 0 (post nothing (message k p q (Offer a)))
 
--- address a, if there is one. "None: outcome 1."
-unfoldable pub offers : Config → ℕ → ℕ → Server → ℕ → ℕ → ℕ → ServerAnswer
-offers c k r s p q a = cond (ltb a (c .addresses)) (atAddress s a (offered k r (bindingAt s a) p q a)) (answer s 1 nothing)
+-- for the address found. "None: outcome 1."
+unfoldable pub onDiscover : Config → ℕ → ℕ → Binding → ℕ → ℕ → ℕ → BindingAnswer
+onDiscover c k r b p q a = cond (offerable c r b) (offered k r b p q a) (bindingAnswer b 1 nothing)
 
--- "the lowest-numbered address that .."
-unfoldable pub onDiscover : Config → ℕ → ℕ → Server → ℕ → ℕ → ServerAnswer
-onDiscover c k r s p q = offers c k r s p q (lowest (λ a. offerable c r (bindingAt s a)) 0 (c .addresses))
+-- whether address a may be offered, by what the server leads, reserves and has on record
+abbrev pub offerableAt : Config → ℕ → List Bool → List Reservation → List ℕ → ℕ → Bool
+offerableAt c r leads reserved records a = mayOffer c r (getD leads a false) ((getD reserved a noReservation) .state) (getD records a 0)
+
+-- "the lowest-numbered address that .."; where there is none, the first, which may not be offered
+unfoldable pub lowestOfferable : Config → ℕ → List Bool → List Reservation → List ℕ → ℕ
+lowestOfferable c r leads reserved records =
+    cond (ltb (lowest (offerableAt c r leads reserved records) 0 (c .addresses)) (c .addresses))
+    (lowest (offerableAt c r leads reserved records) 0 (c .addresses))
+    0
 
 -- Request.
 
@@ -173,8 +180,8 @@ unfoldable pub grantable : Config → ℕ → Binding → Bool
 grantable c r b = b .leads and hasPassed c r (b .potlease)
 
 -- "lent end := clock + μ"
-unfoldable pub grants : Config → ℕ → ℕ → Binding → ℕ → ℕ → ℕ → ℕ → BindingAnswer
-grants c k r b p q a t = cond (grantable c r b) (granted c k b p q a t (r + c .mclt)) (bindingAnswer b 1 nothing)
+unfoldable pub onRequest : Config → ℕ → ℕ → Binding → ℕ → ℕ → ℕ → ℕ → BindingAnswer
+onRequest c k r b p q a t = cond (grantable c r b) (granted c k b p q a t (r + c .mclt)) (bindingAnswer b 1 nothing)
 
 -- a reservation, free if it is one of q
 unfoldable pub freedIfOf : ℕ → Reserved → Reserved
@@ -184,10 +191,6 @@ freedIfOf q (Taken q′ r) = cond (eqb q′ q) Free (Taken q′ r)
 -- "reservations of κ are dropped in any case"
 unfoldable pub dropped : Config → ℕ → Server → Server
 dropped c q s = withReserved s (reservationsBy (freedIfOf q) (c .addresses) (s .reserved))
-
--- they are dropped first
-unfoldable pub onRequest : Config → ℕ → ℕ → Server → ℕ → ℕ → ℕ → ℕ → ServerAnswer
-onRequest c k r s p q a t = atAddress (dropped c q s) a (grants c k r (bindingAt (dropped c q s) a) p q a t)
 
 -- Renew: "if led and the old end is at least clock: lent end := larger of clock + μ and lent end; the rest as for a request."
 unfoldable pub onRenew : Config → ℕ → ℕ → Binding → ℕ → ℕ → ℕ → ℕ → ℕ → BindingAnswer
@@ -219,16 +222,50 @@ onWriteAck c b p q v =
     (bindingAnswer (acknowledged c b q v (set (b .write .acked) p true)) 0 nothing)
     (bindingAnswer b 1 nothing)
 
--- a message that is for a client has no condition here that is met
+-- A message.
+
+-- the address that it is about: the one that it names, or that found for a discover
+unfoldable pub addressFor : Config → ℕ → List Bool → List Reservation → List ℕ → Body → ℕ
+addressFor c r leads reserved records Empty = 0
+addressFor c r leads reserved records Discover = lowestOfferable c r leads reserved records
+addressFor c r leads reserved records (Offer a) = a
+addressFor c r leads reserved records (Request a t) = a
+addressFor c r leads reserved records (Renew a e t) = a
+addressFor c r leads reserved records (Write a v) = a
+addressFor c r leads reserved records (WriteAck a v) = a
+addressFor c r leads reserved records (Ack a e) = a
+
+-- what is done for address a; a message that is for a client has no condition here that is met
+unfoldable pub handledAt : Config → ℕ → ℕ → Binding → ℕ → ℕ → ℕ → Body → BindingAnswer
+handledAt c k r b p q a Empty = bindingAnswer b 1 nothing
+handledAt c k r b p q a Discover = onDiscover c k r b p q a
+handledAt c k r b p q a (Offer _) = bindingAnswer b 1 nothing
+handledAt c k r b p q a (Request _ t) = onRequest c k r b p q a t
+handledAt c k r b p q a (Renew _ e t) = onRenew c k r b p q a e t
+handledAt c k r b p q a (Write _ v) = onWrite k b p q a v
+handledAt c k r b p q a (WriteAck _ v) = onWriteAck c b p q v
+handledAt c k r b p q a (Ack _ e) = bindingAnswer b 1 nothing
+
+unfoldable pub isRequest : Body → Bool
+isRequest Empty = false
+isRequest Discover = false
+isRequest (Offer a) = false
+isRequest (Request a t) = true
+isRequest (Renew a e t) = false
+isRequest (Write a v) = false
+isRequest (WriteAck a v) = false
+isRequest (Ack a e) = false
+
+-- the server that handles it: the reservations of a request's κ are dropped first
+abbrev pub readied : Config → ℕ → Server → Body → Server
+readied c q s x = cond (isRequest x) (dropped c q s) s
+
+abbrev pub addressOf : Config → ℕ → Server → Body → ℕ
+addressOf c r s x = addressFor c r (s .leads) (s .reserved) (s .potlease) x
+
 unfoldable pub serverHandles : Config → ℕ → ℕ → Server → ℕ → ℕ → Body → ServerAnswer
-serverHandles c k r s p q Empty = answer s 1 nothing
-serverHandles c k r s p q Discover = onDiscover c k r s p q
-serverHandles c k r s p q (Offer a) = answer s 1 nothing
-serverHandles c k r s p q (Request a t) = onRequest c k r s p q a t
-serverHandles c k r s p q (Renew a e t) = atAddress s a (onRenew c k r (bindingAt s a) p q a e t)
-serverHandles c k r s p q (Write a v) = atAddress s a (onWrite k (bindingAt s a) p q a v)
-serverHandles c k r s p q (WriteAck a v) = atAddress s a (onWriteAck c (bindingAt s a) p q v)
-serverHandles c k r s p q (Ack a e) = answer s 1 nothing
+serverHandles c k r s p q x =
+    atAddress (readied c q s x) (addressOf c r s x) (handledAt c k r (bindingAt (readied c q s x) (addressOf c r s x)) p q (addressOf c r s x) x)
 
 -- "A dead receiver: outcome 2, nothing handled."
 unfoldable pub serverReceives : Config → ℕ → ℕ → Server → Message → ServerAnswer

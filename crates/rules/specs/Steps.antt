@@ -22,14 +22,15 @@ use Rattle.types.specs.declared.ClientEvent.the-variants.{Discovers, Requests, 
 use Rattle.types.specs.declared.Deed.{Deed}
 use Rattle.types.specs.declared.Deed.the-variants.{Rests, Passes, Serves, Asks}
 use Rattle.types.specs.declared.Answer.{Answer}
+use Rattle.types.specs.declared.World.{World}
 use Rattle.types.specs.declared.ServerAnswer.{ServerAnswer}
 use Rattle.types.specs.declared.ClientAnswer.{ClientAnswer}
 use Rattle.rules.specs.Conditions.{_and_, _or_, within, unless, all, counted, filled}
-use Rattle.rules.specs.Clock.{plus, notNegative, signed}
-use Rattle.rules.specs.Parts.{serverAt, stateAt, messageAt, offsetAt, noticeIn, clock, clientParty, parties, inState, noClient, noMessage, withLife, withServer, withNotices, withClient, withClients, withTime, withNext}
-use Rattle.rules.specs.Views.{offsetIn, View, whole}
+use Rattle.rules.specs.Clock.{notNegative, signed}
+use Rattle.rules.specs.Parts.{serverAt, stateAt, messageAt, offsetOf, noticeIn, clockOf, clock, clientParty, parties, inState, noClient, noMessage, withLife, withServer, withNotices, withClient, withClients, withTime, withNext}
+use Rattle.rules.specs.Views.{worldOf, timeIn, View, whole}
 use Rattle.rules.specs.Ranges.{configInRange, inRange, endInRange, isServer, lastTime, lastInteraction, mostWaiting}
-use Rattle.rules.specs.Messages.{nothing, sendAll, without}
+use Rattle.rules.specs.Messages.{nothing, sendAll, withoutIf}
 use Rattle.rules.specs.Server.{answer, noticed, clearedServer, afterReturn, cleaned, serverReceives}
 use Rattle.rules.specs.Client.{isOffered, isHolding, lapsed, discovers, requests, renews, clientReceives}
 
@@ -149,7 +150,7 @@ abbrev pub offsetAllows : Config → ℤ → ℕ → ℤ → Bool
 offsetAllows c o d e = notNegative d e and leb (natAbs (o +ℤ e)) (c .skew)
 
 unfoldable pub clockAllows : View → ℕ → ℕ → ℤ → Bool
-clockAllows v d p e = offsetAllows (v .world .config) (offsetIn (v .world) p) d e
+clockAllows v d p e = offsetAllows (v .world .config) (offsetOf (v .world .offsets) p) d e
 
 -- Refusal 10. "A pass would leave a live server more than ν without a notice about another." By the notice times ts and the true time t
 -- after it, server k had a notice about server j within ν, or is that server.
@@ -160,8 +161,12 @@ hasHeard c ts t k j = eqb j k or leb t (noticeIn ts k j + c .silence)
 abbrev pub isInTouch : Config → List ℕ → ℕ → ℕ → Bool → Bool
 isInTouch c ts t k alive = not alive or all (hasHeard c ts t k) (c .servers)
 
+-- every server
+abbrev pub areInTouch : Config → List ℕ → ℕ → (ℕ → Bool) → Bool
+areInTouch c ts t alive = all (λ k. isInTouch c ts t k (alive k)) (c .servers)
+
 unfoldable pub inTouch : View → ℕ → ℕ → ℤ → Bool
-inTouch v d p e = all (λ k. isInTouch (v .world .config) (v .world .notices) (v .world .time + d) k (v .alive k)) (v .world .config .servers)
+inTouch v d p e = areInTouch (v .world .config) (v .world .notices) (v .world .time + d) (v .alive)
 
 -- Refusal 11. "A dead notice about a server alive for ν or more since c, or an alive notice about one dead for ν or more." True
 -- time is t, and the server is alive or not since `changed`.
@@ -209,12 +214,15 @@ abbrev pub refused : Facade → ℕ → Answer
 refused f n = record { refusal = n; outcome = 0; facade = f }
 
 -- Step 1. "true time goes up by d .. and every clock by d, but that party's by d+e .."
+abbrev pub movedIn : World → ℕ → ℕ → ℤ → World
+movedIn w d p e = timeIn w (w .time + d) (set (w .offsets) p (offsetOf (w .offsets) p +ℤ e))
+
 abbrev pub moved : Facade → ℕ → ℕ → ℤ → Facade
-moved f d p e = withTime f (f .time + d) (set (f .offsets) p (offsetAt f p +ℤ e))
+moved f d p e = withTime f ((movedIn (worldOf f) d p e) .time) ((movedIn (worldOf f) d p e) .offsets)
 
 -- "A client holding an end not above its clock becomes idle." True time is t, the offsets are os and the clients ys.
 unfoldable pub lapsedAt : Config → ℕ → List ℤ → List Client → ℕ → Client
-lapsedAt c t os ys i = inState (lapsed (plus t (getD os (clientParty c i) (pos 0))) ((getD ys i noClient) .state))
+lapsedAt c t os ys i = inState (lapsed (clockOf t os (clientParty c i)) ((getD ys i noClient) .state))
 
 unfoldable pub ended : Config → ℕ → List ℤ → List Client → List Client
 ended c t os ys = filled (lapsedAt c t os ys) (c .clients) ys
@@ -306,7 +314,7 @@ takes (cleanup k) = false
 takes unknown = false
 
 unfoldable pub takenOut : Facade → Action → Facade
-takenOut f x = cond (takes x) (without f (position x)) f
+takenOut f x = withoutIf f (position x) (takes x)
 
 -- server k is as it answered, and what it sends waits
 abbrev pub serverActs : Facade → ℕ → ServerAnswer → Answer
@@ -333,8 +341,8 @@ effect f x = enacted (takenOut f x) (deed (f .config) (messageAt f (position x))
 abbrev pub hasRoom : Facade → Bool
 hasRoom f = leb (f .waiting) mostWaiting
 
-unfoldable pub roomLeft : Facade → Action → Bool
-roomLeft f x = hasRoom ((effect f x) .facade)
+abbrev pub full : Facade → ℕ
+full f = unless (hasRoom f) 13 0
 
 -- "Refusal list, checked from the top": the number of the first rule that is broken, or what the rules below give. Rules 4 and 5, which a
 -- step alone can break:
@@ -359,11 +367,15 @@ broken v x below = malformed x (barred v x below)
 
 -- the number of the first rule that is broken, or 0
 unfoldable pub refusal : Facade → Action → ℕ
-refusal f x = unless (inRange f) 2 (broken (whole f) x (unless (roomLeft f x) 13 0))
+refusal f x = unless (inRange f) 2 (broken (whole f) x (full ((effect f x) .facade)))
+
+-- refused with n, or the answer a where n is 0
+abbrev pub unlessRefused : Facade → ℕ → Answer → Answer
+unlessRefused f n a = cond (eqb n 0) a (refused f n)
 
 -- refused with the first number, or accepted with its effect
 unfoldable pub answerTo : Facade → Action → Answer
-answerTo f x = cond (eqb (refusal f x) 0) (effect f x) (refused f (refusal f x))
+answerTo f x = unlessRefused f (refusal f x) (effect f x)
 
 -- the answer to a step, for every facade, kind number and fields
 unfoldable pub step : Facade → Step → Answer

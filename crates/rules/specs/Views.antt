@@ -1,7 +1,8 @@
 -- What refusals 6 to 12 look at: of a whole facade, or of the parts of one that are at hand.
 use mathlib.Core.Bool.{Bool, false}
+use mathlib.Core.List.{List}
 use Prim.Native.Nat.{ℕ}
-use lib.IntN.{ℤ, pos}
+use lib.IntN.{ℤ}
 use lib.ListN.{getD}
 use Rattle.types.specs.declared.State.{State}
 use Rattle.types.specs.declared.Facade.{Facade}
@@ -20,9 +21,16 @@ worldOf f = record {
   waiting = f .waiting;
 }
 
--- the amount by which the clock of party p is ahead
-abbrev pub offsetIn : World → ℕ → ℤ
-offsetIn w p = getD (w .offsets) p (pos 0)
+-- a world with another true time and other offsets
+abbrev pub timeIn : World → ℕ → List ℤ → World
+timeIn w t os = record {
+  config = w .config;
+  time = t;
+  next = w .next;
+  offsets = os;
+  notices = w .notices;
+  waiting = w .waiting;
+}
 
 -- the world, of each server whether it is alive and since when, and a client's state by its number
 pub record View : Type 0 where

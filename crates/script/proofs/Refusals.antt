@@ -13,7 +13,7 @@ use Rattle.types.specs.declared.Answer.{Answer}
 use Rattle.rules.specs.Conditions.{unless}
 use Rattle.rules.specs.Ranges.{inRange}
 use Rattle.rules.specs.Views.{whole}
-use Rattle.rules.specs.Steps.{Action, action, isKnown, fieldsInRange, exists, stateAllows, ofPass, timeLeft, clockAllows, inTouch, ofNotice, isCredible, interactionLeft, malformed, barred, broken, enacted, effect, roomLeft, refused, refusal, answerTo, step}
+use Rattle.rules.specs.Steps.{Action, action, isKnown, fieldsInRange, exists, stateAllows, ofPass, timeLeft, clockAllows, inTouch, ofNotice, isCredible, interactionLeft, malformed, barred, broken, enacted, effect, hasRoom, refused, refusal, answerTo, step}
 use Rattle.rules.proofs.Laws.{true-of, cond-case, unless-ok}
 use Rattle.rules.proofs.Refusals.{first-malformed, refused-first}
 use Rattle.script.specs.declared.Decoded.{Decoded}
@@ -56,7 +56,7 @@ module _ (f : Facade) (s : Step) (t : T (inRange f)) where
       (other-below (ofPass (inTouch (whole f)) x) 10 (omega arith)
       (other-below (ofNotice (isCredible (whole f)) x) 11 (omega arith)
       (other-below (interactionLeft (whole f) x) 12 (omega arith)
-      (other-below (roomLeft f x) 13 (omega arith) (omega arith)))))))))
+      (other-below (hasRoom ((effect f x) .facade)) 13 (omega arith) (omega arith)))))))))
 
   other-answer : stepRefusal s ≡ 0 → Other ((step f s) .refusal)
   unfolding step answerTo

@@ -1,6 +1,6 @@
 -- Laws of the rules' definitions that the proofs of the code cite.
 use mathlib.Core.Path.{_≡_, refl, sym, ap, _∙_}
-use mathlib.Core.Bool.{Bool, true, false, not, cond}
+use mathlib.Core.Bool.{Bool, true, false, cond}
 use mathlib.Core.List.{List, [], _∷_}
 use Prim.Native.Nat.{ℕ, zero, suc, _+_, _≤_, _<_}
 use native.Mathlib.Numerals.{add-one}
@@ -13,17 +13,15 @@ use Rattle.types.specs.declared.Reservation.{Reservation}
 use Rattle.types.specs.declared.OpenWrite.{OpenWrite}
 use Rattle.types.specs.declared.Server.{Server}
 use Rattle.types.specs.declared.Body.{Body}
-use Rattle.types.specs.declared.Body.the-variants.{Empty, Discover, Offer, Request, Renew, Write, WriteAck, Ack}
+use Rattle.types.specs.declared.Body.the-variants.{WriteAck}
 use Rattle.types.specs.declared.Message.{Message}
 use Rattle.types.specs.declared.BindingAnswer.{BindingAnswer}
-use Rattle.rules.specs.Conditions.{filled}
+use Rattle.rules.specs.Conditions.{_and_, filled}
 use Rattle.rules.specs.Parts.{noReservation, noWrite, bindingAt, withReserved, withBinding}
 use Rattle.rules.specs.Ranges.{bodyInRange}
 use Rattle.rules.specs.Messages.{nothing}
-use Rattle.rules.specs.Server.{answer, atAddress, closed, clearedServer, reservationsBy, onDiscover, freedIfOf, dropped, onRequest, serverHandles, serverReceives}
-use Rattle.rules.proofs.Laws.{and-l, and-r}
-use Rattle.rules.proofs.Kept.{Configured}
-use Rattle.server.specs.Bodies.{isRequest, addressIn, handledAt}
+use Rattle.rules.specs.Server.{answer, bindingAnswer, atAddress, closed, clearedServer, reservationsBy, freedIfOf, dropped, handledAt, isRequest, addressOf, serverHandles, serverReceives}
+use Rattle.rules.proofs.Laws.{and-l}
 
 -- a list filled at each of its n places with x is x repeated
 filled-next : {A : Type 0} (x y : A) (n : ℕ) (l : List A) → filled (λ _. x) (suc n) (y ∷ l) ≡ x ∷ filled (λ _. x) n l
@@ -79,65 +77,33 @@ ack-sender c from to a v x = ltb→lt from _ (and-l _ _ x)
 put-back : (s : Server) (a : ℕ) → withBinding s a (bindingAt s a) ≡ s
 put-back s a = rw (set-getD (s .leads) a false, set-getD (s .reserved) a noReservation, set-getD (s .lent) a 0, set-getD (s .potlease) a 0, set-getD (s .writes) a noWrite)
 
--- the server that handles a message: for a request its reservations are dropped
-abbrev pub ready : Config → ℕ → Server → Body → Server
-ready c q s x = cond (isRequest x) (dropped c q s) s
+-- the server that handles a message, if it is alive
+abbrev pub readiedIf : Bool → Config → ℕ → Server → Body → Server
+readiedIf alive c q s x = cond (alive and isRequest x) (dropped c q s) s
 
-module _ (c : Config) (q : ℕ) (s : Server) (x : Body) (t : Server) (b : Bool) (e : b ≡ isRequest x) where
-  pub ready-dropped : b ≡ true → (rs : List Reservation) → rs ≡ reservationsBy (freedIfOf q) (c .addresses) (s .reserved) → t ≡ withReserved s rs → t ≡ ready c q s x
+module _ (c : Config) (q : ℕ) (s : Server) (x : Body) (t : Server) (b d : Bool) (e : d ≡ (s .alive and b)) (g : b ≡ isRequest x) where
+  pub ready-dropped : d ≡ true → (rs : List Reservation) → rs ≡ reservationsBy (freedIfOf q) (c .addresses) (s .reserved) → t ≡ withReserved s rs
+      → t ≡ readiedIf (s .alive) c q s x
   unfolding dropped
-  ready-dropped d rs g h = h ∙ rw (g, sym e ∙ d)
+  ready-dropped u rs w h = h ∙ rw (w, ← g, sym e ∙ u)
 
-  pub ready-same : b ≡ false → t ≡ s → t ≡ ready c q s x
-  ready-same d h = h ∙ rw (sym e ∙ d)
+  pub ready-same : d ≡ false → t ≡ s → t ≡ readiedIf (s .alive) c q s x
+  ready-same u h = h ∙ rw (← g, sym e ∙ u)
 
-module _ (c : Config) (ok : Configured c) (k r : ℕ) (s : Server) (p q : ℕ) where
-  -- of the messages in range only a discover names no address
-  unnamed : (x : Body) → T (bodyInRange c p k x) → c .addresses ≤ addressIn x → onDiscover c k r s p q ≡ serverHandles c k r s p q x
-  unfolding bodyInRange addressIn serverHandles
-  unnamed Empty t h = absurd t
-  unnamed Discover t h = refl
-  unnamed (Offer a) t h = absurd (omega (arith, ltb→lt a _ (and-r _ _ (and-r _ _ t))))
-  unnamed (Request a w) t h = absurd (omega (arith, ltb→lt a _ (and-l _ _ (and-r _ _ (and-r _ _ t)))))
-  unnamed (Renew a e w) t h = absurd (omega (arith, ltb→lt a _ (and-l _ _ (and-r _ _ (and-r _ _ t)))))
-  unnamed (Write a v) t h = absurd (omega (arith, ltb→lt a _ (and-l _ _ (and-r _ _ (and-r _ _ t)))))
-  unnamed (WriteAck a v) t h = absurd (omega (arith, ltb→lt a _ (and-l _ _ (and-r _ _ (and-r _ _ t)))))
-  unnamed (Ack a e) t h = absurd (omega (arith, ltb→lt a _ (and-l _ _ (and-r _ _ (and-r _ _ t)))))
+-- a dead server puts back what it keeps for the address
+received-go : (c : Config) (k r : ℕ) (s : Server) (p q : ℕ) (x : Body) (alive : Bool)
+    → atAddress (readiedIf alive c q s x) (addressOf c r s x)
+    (cond alive (handledAt c k r (bindingAt (readiedIf alive c q s x) (addressOf c r s x)) p q (addressOf c r s x) x) (bindingAnswer (bindingAt (readiedIf alive c q s x) (addressOf c r s x)) 2 nothing))
+    ≡ cond alive (serverHandles c k r s p q x) (answer s 2 nothing)
+unfolding serverHandles _and_
+received-go c k r s p q x true = refl
+received-go c k r s p q x false = ap (λ t. answer t 2 nothing) (put-back s (addressOf c r s x))
 
-  -- one that names an address is handled for it
-  named : (x : Body) → addressIn x < c .addresses
-      → atAddress (ready c q s x) (addressIn x) (handledAt c k r (bindingAt (ready c q s x) (addressIn x)) p q x) ≡ serverHandles c k r s p q x
-  unfolding isRequest addressIn handledAt serverHandles onRequest
-  named Empty h = absurd (omega (arith, ok .addresses-high))
-  named Discover h = absurd (omega (arith, ok .addresses-high))
-  named (Offer a) h = ap (λ t. answer t 1 nothing) (put-back s a)
-  named (Request a t) h = refl
-  named (Renew a e t) h = refl
-  named (Write a v) h = refl
-  named (WriteAck a v) h = refl
-  named (Ack a e) h = ap (λ t. answer t 1 nothing) (put-back s a)
-
-not-is : (b d : Bool) → not b ≡ d → b ≡ not d
-not-is true d e = ap not e
-not-is false d e = ap not e
-
--- a live server handles a message, and a dead one does not
-module _ (c : Config) (k r : ℕ) (s : Server) (m : Message) where
-  when-alive : not (s .alive) ≡ false → serverHandles c k r s (m .sender) (m .interaction) (m .body) ≡ serverReceives c k r s m
-  unfolding serverReceives
-  when-alive e = rw (not-is (s .alive) false e)
-
-  pub when-dead : not (s .alive) ≡ true → answer s 2 nothing ≡ serverReceives c k r s m
-  unfolding serverReceives
-  when-dead e = rw (not-is (s .alive) true e)
-
-  module _ (ok : Configured c) (al : not (s .alive) ≡ false) where
-    pub when-unnamed : T (bodyInRange c (m .sender) k (m .body)) → c .addresses ≤ addressIn (m .body)
-        → onDiscover c k r s (m .sender) (m .interaction) ≡ serverReceives c k r s m
-    when-unnamed t h = unnamed c ok k r s (m .sender) (m .interaction) (m .body) t h ∙ when-alive al
-
-    -- t is the server that handles it, a the address, x what is done for it
-    pub when-named : (t : Server) (a : ℕ) (x : BindingAnswer) → t ≡ ready c (m .interaction) s (m .body) → a ≡ addressIn (m .body) → a < c .addresses
-        → x ≡ handledAt c k r (bindingAt t a) (m .sender) (m .interaction) (m .body) → atAddress t a x ≡ serverReceives c k r s m
-    when-named t a x e d h g =
-        rw (g, e, d) (named c ok k r s (m .sender) (m .interaction) (m .body) (rw d at h)) ∙ when-alive al
+-- t is the server that handles the message m, a the address that it is about, x what is done for it
+pub received : (c : Config) (k r : ℕ) (s : Server) (m : Message) (t : Server) (a : ℕ) (x : BindingAnswer)
+    → t ≡ readiedIf (s .alive) c (m .interaction) s (m .body)
+    → a ≡ addressOf c r s (m .body)
+    → x ≡ cond (s .alive) (handledAt c k r (bindingAt t a) (m .sender) (m .interaction) a (m .body)) (bindingAnswer (bindingAt t a) 2 nothing)
+    → atAddress t a x ≡ serverReceives c k r s m
+unfolding serverReceives
+received c k r s m t a x e d h = rw (h, e, d) (received-go c k r s (m .sender) (m .interaction) (m .body) (s .alive))

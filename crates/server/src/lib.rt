@@ -1,9 +1,11 @@
 // What is sealed in: a server's notices, return and cleanup, and the messages that it handles.
 // c is the configuration, k the server's number, r its clock reading, s its value. A server knows no facade and no true time.
+use arith::both;
 use leading::leads_after;
 use leading::next_server;
 use leading::record_after;
 use lending::drop_reservations;
+use lending::lowest_offerable;
 use lending::on_discover;
 use lending::on_renew;
 use lending::on_request;
@@ -21,33 +23,33 @@ use writes::closed;
 use writes::on_write;
 use writes::on_write_ack;
 ghost use mathlib.Core.Path.{_≡_};
+ghost use mathlib.Core.Bool.{cond};
 ghost use Prim.Native.Nat.{_≤_, _<_};
 ghost use lib.Dec.{T};
 ghost use Rattle.rules.specs.Ranges.{bodyInRange};
 ghost use Rattle.rules.specs.Messages.{nothing as nothingSent};
-ghost use Rattle.rules.specs.Server.{answer, bindingAnswer, noticed as afterNotice, clearedServer, afterReturn, reservationsBy, freedIfOld, cleaned, serverReceives};
+ghost use Rattle.rules.specs.Server.{bindingAnswer, noticed as afterNotice, clearedServer, afterReturn, reservationsBy, freedIfOld, cleaned, isRequest, addressFor, handledAt, serverReceives};
 ghost use Rattle.rules.proofs.Kept.{Configured};
-ghost use Rattle.server.specs.Bodies.{isRequest, addressIn, handledAt};
 
 // A notice: server `about` is dead (0) or alive (1). For each address it is decided anew whether the server leads it.
 pub fn notice(c: Config, k: u32, r: u32, s: Server, about: u32, says: u32) -> ServerAnswer
     requires { ⌜ Configured c × (k < c .servers) × (r ≤ 1000001000) × (about < c .servers) ⌝ }
     ensures { λ x. ⌜ x ≡ afterNotice c k r s about says ⌝ }
 {
-    let mut b = s.believed;
+    let mut t = s;
+    let mut b = t.believed;
     let subject = about as usize;
     b[subject] = says == 1;
-    let mut t = s;
     t.believed = b;
     let n = c.addresses;
     let mut first = 0;
     let mut a = 0;
     while a < n {
         let at = a as usize;
-        let before = s.leads[at];
-        let now = leads_after(c, k, r, s.returned, before, b, first);
+        let before = t.leads[at];
+        let now = leads_after(c, k, r, t.returned, before, b, first);
         t.leads[at] = now;
-        t.potlease[at] = record_after(c, r, before, now, s.potlease[at]);
+        t.potlease[at] = record_after(c, r, before, now, t.potlease[at]);
         first = next_server(c.servers, first);
         a += 1;
     }
@@ -158,18 +160,6 @@ pub fn clean_up(c: Config, r: u32, s: Server) -> ServerAnswer
     }
 }
 
-// The server as it is, with outcome n, and nothing sent.
-fn unmoved(s: Server, n: u32) -> ServerAnswer
-    ensures { λ x. ⌜ x ≡ answer s n nothingSent ⌝ }
-{
-    let none = nothing();
-    ServerAnswer {
-        server: s,
-        outcome: n,
-        outbox: none,
-    }
-}
-
 fn is_request(body: Body) -> bool
     ensures { λ x. ⌜ x ≡ isRequest body ⌝ }
 {
@@ -185,13 +175,21 @@ fn is_request(body: Body) -> bool
     }
 }
 
-// The address that a message names; 32, which is no address, where it names none.
-fn address_in(body: Body) -> u32
-    ensures { λ a. ⌜ a ≡ addressIn body ⌝ }
+// The address that a message is about: the one that it names, or for a discover the lowest that may be offered; 0 where there is none.
+fn address_for(
+    c: Config,
+    r: u32,
+    leads: [bool; 32],
+    reserved: [Reservation; 32],
+    records: [u32; 32],
+    body: Body,
+) -> u32
+    requires { ⌜ Configured c ⌝ }
+    ensures { λ a. ⌜ a ≡ addressFor c r leads reserved records body ⌝ }
 {
     match body {
-        Body::Empty => 32,
-        Body::Discover => 32,
+        Body::Empty => 0,
+        Body::Discover => lowest_offerable(c, r, leads, reserved, records),
         Body::Offer(a) => a,
         Body::Request(a, _) => a,
         Body::Renew(a, _, _) => a,
@@ -201,77 +199,105 @@ fn address_in(body: Body) -> u32
     }
 }
 
-// What is kept for an address as it is: a condition is not met.
-fn unmet(b: Binding) -> BindingAnswer
-    ensures { λ x. ⌜ x ≡ bindingAnswer b 1 nothingSent ⌝ }
+// What is kept for an address as it is, with outcome n, and nothing sent.
+fn unmoved(b: Binding, n: u32) -> BindingAnswer
+    ensures { λ x. ⌜ x ≡ bindingAnswer b n nothingSent ⌝ }
 {
     let none = nothing();
     BindingAnswer {
         binding: b,
-        outcome: 1,
+        outcome: n,
         outbox: none,
     }
 }
 
-// A message with this body from party p in interaction q, for the address that it names.
-fn handle(c: Config, k: u32, r: u32, b: Binding, p: u32, q: u32, body: Body) -> BindingAnswer
+// A message with this body from party p in interaction q, for address a.
+fn handle(
+    c: Config,
+    k: u32,
+    r: u32,
+    b: Binding,
+    p: u32,
+    q: u32,
+    a: u32,
+    body: Body,
+) -> BindingAnswer
     requires { ⌜ Configured c × (k < c .servers) × (r ≤ 1000001000) × T (bodyInRange c p k body) ⌝ }
-    ensures { λ x. ⌜ x ≡ handledAt c k r b p q body ⌝ }
+    ensures { λ x. ⌜ x ≡ handledAt c k r b p q a body ⌝ }
 {
     match body {
-        Body::Empty => unmet(b),
-        Body::Discover => unmet(b),
-        Body::Offer(_) => unmet(b),
-        Body::Request(a, t) => on_request(c, k, r, b, p, q, a, t),
-        Body::Renew(a, e, t) => on_renew(c, k, r, b, p, q, a, e, t),
-        Body::Write(a, v) => on_write(k, b, p, q, a, v),
+        Body::Empty => unmoved(b, 1),
+        Body::Discover => on_discover(c, k, r, b, p, q, a),
+        Body::Offer(_) => unmoved(b, 1),
+        Body::Request(_, t) => on_request(c, k, r, b, p, q, a, t),
+        Body::Renew(_, e, t) => on_renew(c, k, r, b, p, q, a, e, t),
+        Body::Write(_, v) => on_write(k, b, p, q, a, v),
         Body::WriteAck(_, v) => on_write_ack(c, b, p, q, v),
-        Body::Ack(_, _) => unmet(b),
+        Body::Ack(_, _) => unmoved(b, 1),
     }
 }
 
-// A message that comes to the server. A dead server handles nothing.
-// What is kept for the address named is read out and put back here, since a server that is handed on is copied whole.
-pub fn receive(c: Config, k: u32, r: u32, mut s: Server, m: Message) -> ServerAnswer
+// A dead server handles nothing.
+fn handle_alive(
+    c: Config,
+    k: u32,
+    r: u32,
+    alive: bool,
+    b: Binding,
+    p: u32,
+    q: u32,
+    a: u32,
+    body: Body,
+) -> BindingAnswer
+    requires { ⌜ Configured c × (k < c .servers) × (r ≤ 1000001000) × T (bodyInRange c p k body) ⌝ }
+    ensures { λ x. ⌜ x ≡ cond alive (handledAt c k r b p q a body) (bindingAnswer b 2 nothingSent) ⌝ }
+{
+    if alive {
+        return handle(c, k, r, b, p, q, a, body);
+    }
+    unmoved(b, 2)
+}
+
+// A message that comes to the server. What is kept for one address is read out and put back here, since a server that is handed on is
+// copied whole.
+pub fn receive(c: Config, k: u32, r: u32, s: Server, m: Message) -> ServerAnswer
     requires { ⌜ Configured c × (k < c .servers) × (r ≤ 1000001000) × T (bodyInRange c (m .sender) k (m .body)) ⌝ }
     ensures { λ x. ⌜ x ≡ serverReceives c k r s m ⌝ }
 {
+    let mut t = s;
+    let alive = t.alive;
     let body = m.body;
-    let a = address_in(body);
+    let leads = t.leads;
+    let reserved = t.reserved;
+    let records = t.potlease;
+    let a = address_for(c, r, leads, reserved, records, body);
     let at = a as usize;
-    if !s.alive {
-        return unmoved(s, 2);
+    if both(alive, is_request(body)) {
+        let kept = drop_reservations(c.addresses, m.interaction, reserved);
+        t.reserved = kept;
     }
-    if c.addresses <= a {
-        return on_discover(c, k, r, s, m.sender, m.interaction);
-    }
-    if is_request(body) {
-        let rs = s.reserved;
-        let kept = drop_reservations(c.addresses, m.interaction, rs);
-        s.reserved = kept;
-    }
-    let reservation = s.reserved[at];
+    let reservation = t.reserved[at];
     let state = reservation.state;
-    let w = s.writes[at];
+    let w = t.writes[at];
     let b = Binding {
-        leads: s.leads[at],
+        leads: t.leads[at],
         reserved: state,
-        lent: s.lent[at],
-        potlease: s.potlease[at],
+        lent: t.lent[at],
+        potlease: t.potlease[at],
         write: w,
     };
-    let x = handle(c, k, r, b, m.sender, m.interaction, body);
+    let x = handle_alive(c, k, r, alive, b, m.sender, m.interaction, a, body);
     let after = x.binding;
     let left = after.reserved;
     let written = after.write;
-    s.leads[at] = after.leads;
-    s.reserved[at] = Reservation { state: left };
-    s.lent[at] = after.lent;
-    s.potlease[at] = after.potlease;
-    s.writes[at] = written;
+    t.leads[at] = after.leads;
+    t.reserved[at] = Reservation { state: left };
+    t.lent[at] = after.lent;
+    t.potlease[at] = after.potlease;
+    t.writes[at] = written;
     let sent = x.outbox;
     ServerAnswer {
-        server: s,
+        server: t,
         outcome: x.outcome,
         outbox: sent,
     }

@@ -32,7 +32,8 @@ use Rattle.rules.specs.Views.{atHand}
 use Rattle.rules.specs.Steps.{action, broken, accepted, refused, deed, takes, serverAfter, noticesAfter, clientAfter, nextAfter, ended, enacted, step}
 use Rattle.rules.proofs.Kept.{Configured}
 use Rattle.arith.proofs.Signs.{sum-fits}
-use Rattle.world.specs.Apart.{facadeOf, timeIn}
+use Rattle.rules.specs.Views.{timeIn}
+use Rattle.world.specs.Apart.{facadeOf}
 use Rattle.world.proofs.Laws.{sizes, waiting-high, offset-high, offset-read, reading-high}
 use Rattle.cable.specs.Exchange.{restOf, exchanged}
 use Rattle.cable.proofs.Laws.{rest-high}

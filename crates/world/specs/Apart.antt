@@ -3,7 +3,6 @@ use mathlib.Core.Bool.{cond}
 use mathlib.Core.List.{List, [], _∷_}
 use Prim.Native.Nat.{ℕ}
 use lib.Dec.{ltb}
-use lib.IntN.{ℤ}
 use lib.ListN.{getD}
 use Rattle.types.specs.declared.Server.{Server}
 use Rattle.types.specs.declared.Client.{Client}
@@ -24,17 +23,6 @@ facadeOf w ss ys ms = record {
   notices = w .notices;
   clients = ys;
   messages = ms;
-  waiting = w .waiting;
-}
-
--- a world with another true time and other offsets
-abbrev pub timeIn : World → ℕ → List ℤ → World
-timeIn w t os = record {
-  config = w .config;
-  time = t;
-  next = w .next;
-  offsets = os;
-  notices = w .notices;
   waiting = w .waiting;
 }
 

@@ -7,7 +7,7 @@ use mir.Facts.{toZ-ofZ}
 use lib.IntN.{ℤ, pos, _+ℤ_}
 use lib.ListN.{getD, set}
 use borrow.Author.Needs.{needs}
-use Rattle.world.specs.Apart.{timeIn}
+use Rattle.rules.specs.Views.{timeIn}
 use Rattle.clocks.proofs.move_on.Statement.{statement}
 use Rattle.clocks.proofs.move_on.Tie as tie
 

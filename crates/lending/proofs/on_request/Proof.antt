@@ -1,6 +1,6 @@
 use mathlib.Core.Path.{sym, _∙_}
 use borrow.Author.Needs.{needs}
-use Rattle.rules.specs.Server.{grants, grantable}
+use Rattle.rules.specs.Server.{onRequest, grantable}
 use Rattle.lending.proofs.on_request.Statement.{statement}
 use Rattle.lending.proofs.on_request.Tie as tie
 
@@ -17,7 +17,7 @@ grant-requires : tie.Need-grant-requires
 grant-requires c κs = search needs
 
 returns : tie.Need-returns
-unfolding grants grantable
+unfolding onRequest grantable
 returns c = let b = c .before .before .before in
     rw (← b .before .is-expired .ensures, sym (b .both .ensures) ∙ c .before .before .if1 .taken) (c .grant .ensures)
 
@@ -25,7 +25,7 @@ nothing-requires : tie.Need-nothing-requires
 nothing-requires c κs = search needs
 
 returns-2 : tie.Need-returns-2
-unfolding grants grantable
+unfolding onRequest grantable
 returns-2 c = let b = c .before .before in
     rw (← b .before .is-expired .ensures, sym (b .both .ensures) ∙ c .before .if1 .left, c .nothing .ensures)
 

@@ -9,7 +9,7 @@ use lib.ListN.{getD}
 use Rattle.world.proofs.Laws.{sizes, time-high, offset-high}
 use borrow.Author.Tests.{not-true, not-false}
 use Rattle.types.specs.declared.State.the-variants.{Idle}
-use Rattle.rules.specs.Views.{offsetIn}
+use Rattle.rules.specs.Parts.{offsetOf}
 use Rattle.rules.specs.Steps.{offsetAllows}
 use Rattle.refusals.proofs.Laws.{holds, fails, pass-fields, pass-6, pass-8, pass-9, pass-10, pass-kept}
 use borrow.Author.Needs.{needs}
@@ -17,8 +17,8 @@ use Rattle.refusals.proofs.pass_barred.Statement.{statement}
 use Rattle.refusals.proofs.pass_barred.Tie as tie
 
 -- the numbers that the code read
-allows : (c : tie.Start) → SFits w32 (offsetIn (c .args .t1) (c .args .p)) → {r : Bool} → r ≡ offsetAllows (c .args .t1 .config) (toZ w32 (ofZ w32 (offsetIn (c .args .t1) (c .args .p)))) (c .args .d) (toZ w32 (ofZ w32 (c .args .e)))
-    → r ≡ offsetAllows (c .args .t1 .config) (offsetIn (c .args .t1) (c .args .p)) (c .args .d) (c .args .e)
+allows : (c : tie.Start) → SFits w32 (offsetOf (c .args .t1 .offsets) (c .args .p)) → {r : Bool} → r ≡ offsetAllows (c .args .t1 .config) (toZ w32 (ofZ w32 (offsetOf (c .args .t1 .offsets) (c .args .p)))) (c .args .d) (toZ w32 (ofZ w32 (c .args .e)))
+    → r ≡ offsetAllows (c .args .t1 .config) (offsetOf (c .args .t1 .offsets) (c .args .p)) (c .args .d) (c .args .e)
 allows c fit h = rw (toZ-ofZ fit, toZ-ofZ (c .fits .e)) at h
 
 add-if1 : tie.Need-add-if1
@@ -49,7 +49,7 @@ does-clock-allow-requires c κs =
 returns-3 : tie.Need-returns-3
 returns-3 c =
     let start = c .before .before .before .before .before .before .before in
-    let fit : SFits w32 (offsetIn (start .args .t1) (start .args .p)) = search needs in
+    let fit : SFits w32 (offsetOf (start .args .t1 .offsets) (start .args .p)) = search needs in
     pass-9 (start .args .t1) (start .args .l) Idle (start .args .d) (start .args .p) (start .args .e) (c .before .before .before .before .if1 .left) (c .before .before .before .if2 .left) (fails (allows start fit (c .before .does-clock-allow .ensures)) (c .if3 .taken))
 
 add-is-in-touch : tie.Need-add-is-in-touch
@@ -62,14 +62,14 @@ returns-4 : tie.Need-returns-4
 returns-4 c =
     let start = c .before .before .before .before .before .before .before .before .before .before .before in
     let allowed = c .before .before .before .before in
-    let fit : SFits w32 (offsetIn (start .args .t1) (start .args .p)) = search needs in
+    let fit : SFits w32 (offsetOf (start .args .t1 .offsets) (start .args .p)) = search needs in
     pass-10 (start .args .t1) (start .args .l) Idle (start .args .d) (start .args .p) (start .args .e) (allowed .before .before .before .before .if1 .left) (allowed .before .before .before .if2 .left) (holds (allows start fit (allowed .before .does-clock-allow .ensures)) (allowed .if3 .left)) (c .before .is-in-touch .result) (c .before .is-in-touch .ensures) (not-true _ (c .if4 .taken))
 
 returns-5 : tie.Need-returns-5
 returns-5 c =
     let start = c .before .before .before .before .before .before .before .before .before .before .before in
     let allowed = c .before .before .before .before in
-    let fit : SFits w32 (offsetIn (start .args .t1) (start .args .p)) = search needs in
+    let fit : SFits w32 (offsetOf (start .args .t1 .offsets) (start .args .p)) = search needs in
     pass-kept (start .args .t1) (start .args .l) Idle (start .args .d) (start .args .p) (start .args .e) (allowed .before .before .before .before .if1 .left) (allowed .before .before .before .if2 .left) (holds (allows start fit (allowed .before .does-clock-allow .ensures)) (allowed .if3 .left)) (c .before .is-in-touch .result) (c .before .is-in-touch .ensures) (not-false _ (c .if4 .left))
 
 pub pass-barred-spec : {M : Type 1} → statement M

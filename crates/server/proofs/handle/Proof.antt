@@ -1,6 +1,6 @@
 use native.Mathlib.Omega.{arith}
 use borrow.Author.Needs.{needs}
-use Rattle.server.specs.Bodies.{handledAt}
+use Rattle.rules.specs.Server.{handledAt}
 use Rattle.server.proofs.Laws.{ack-sender}
 use Rattle.server.proofs.handle.Statement.{statement}
 use Rattle.server.proofs.handle.Tie as tie
@@ -8,20 +8,20 @@ use Rattle.server.proofs.handle.Tie as tie
 enum-told : tie.Need-enum-told
 enum-told c = search needs
 
-unmet-requires : tie.Need-unmet-requires
-unmet-requires c κs = search needs
+unmoved-requires : tie.Need-unmoved-requires
+unmoved-requires c κs = search needs
 
 enum-told-2 : tie.Need-enum-told-2
 enum-told-2 c = search needs
 
-unmet-requires-2 : tie.Need-unmet-requires-2
-unmet-requires-2 c κs = search needs
+on-discover-requires : tie.Need-on-discover-requires
+on-discover-requires c κs = search needs
 
 enum-told-3 : tie.Need-enum-told-3
 enum-told-3 c = search needs
 
-unmet-requires-3 : tie.Need-unmet-requires-3
-unmet-requires-3 c κs = search needs
+unmoved-requires-2 : tie.Need-unmoved-requires-2
+unmoved-requires-2 c κs = search needs
 
 enum-known-body : tie.Need-enum-known-body
 enum-known-body c = search needs
@@ -50,20 +50,20 @@ on-write-ack-requires c κs = omega (arith, ack-sender _ _ _ _ _ (rw (c .before 
 enum-told-4 : tie.Need-enum-told-4
 enum-told-4 c = search needs
 
-unmet-requires-4 : tie.Need-unmet-requires-4
-unmet-requires-4 c κs = search needs
+unmoved-requires-3 : tie.Need-unmoved-requires-3
+unmoved-requires-3 c κs = search needs
 
 returns : tie.Need-returns
 unfolding handledAt
-returns c = rw (c .before .enum-told .given .1) (c .unmet .ensures)
+returns c = rw (c .before .enum-told .given .1) (c .unmoved .ensures)
 
 returns-2 : tie.Need-returns-2
 unfolding handledAt
-returns-2 c = rw (c .before .enum-told2 .given .1) (c .unmet2 .ensures)
+returns-2 c = rw (c .before .enum-told2 .given .1) (c .on-discover .ensures)
 
 returns-3 : tie.Need-returns-3
 unfolding handledAt
-returns-3 c = rw (c .before .enum-told3 .given .1) (c .unmet3 .ensures)
+returns-3 c = rw (c .before .enum-told3 .given .1) (c .unmoved2 .ensures)
 
 returns-4 : tie.Need-returns-4
 unfolding handledAt
@@ -83,18 +83,18 @@ returns-7 c = rw (c .before .before .body4 .given .1) (c .on-write-ack .ensures)
 
 returns-8 : tie.Need-returns-8
 unfolding handledAt
-returns-8 c = rw (c .before .enum-told4 .given .1) (c .unmet4 .ensures)
+returns-8 c = rw (c .before .enum-told4 .given .1) (c .unmoved3 .ensures)
 
 pub handle-spec : {M : Type 1} → statement M
 handle-spec =
     tie.close
     (tie.spec
     enum-told
-    unmet-requires
+    unmoved-requires
     enum-told-2
-    unmet-requires-2
+    on-discover-requires
     enum-told-3
-    unmet-requires-3
+    unmoved-requires-2
     enum-known-body
     on-request-requires
     enum-known-body-2
@@ -104,7 +104,7 @@ handle-spec =
     enum-known-body-4
     on-write-ack-requires
     enum-told-4
-    unmet-requires-4
+    unmoved-requires-3
     returns
     returns-2
     returns-3

@@ -1,5 +1,5 @@
 use borrow.Author.Needs.{needs}
-use Rattle.server.specs.Bodies.{isRequest}
+use Rattle.rules.specs.Server.{isRequest}
 use Rattle.server.proofs.is_request.Statement.{statement}
 use Rattle.server.proofs.is_request.Tie as tie
 

@@ -3,17 +3,17 @@ use Prim.Native.Nat.{_-_, _%_, _≤_}
 use native.Mathlib.Omega.{arith}
 use native.Mathlib.Nat.{mod-lt, mod-eq-of-lt}
 use borrow.Author.Needs.{needs}
-use Rattle.rules.specs.Server.{noticed}
+use Rattle.rules.specs.Server.{leadsAfter, recordAfter, leadingWith, noticed}
 use Rattle.leading.proofs.Laws.{led, led-none, led-more, led-all}
 use Rattle.leading.proofs.Walk.{may-lead, next-first}
 use Rattle.server.proofs.notice.Statement.{statement}
 use Rattle.server.proofs.notice.Tie as tie
 
 abbrev Inv-loop : tie.InvT-loop
-Inv-loop c k r about says s b subject t₀ n first₀ a₀ t first a = (a ≤ n) × (first ≡ a % c .servers) × (t ≡ led c k r s b a)
+Inv-loop c k r about says t₀ b subject n first₀ a₀ t first a = (a ≤ n) × (first ≡ a % c .servers) × (t ≡ led c k r t₀ b a)
 
 abbrev μ-loop : tie.MeasureT-loop
-μ-loop c k r about says s b subject t₀ n first₀ a₀ t first a = n - a
+μ-loop c k r about says t₀ b subject n first₀ a₀ t first a = n - a
 
 array-write-b : tie.Need-array-write-b Inv-loop μ-loop
 array-write-b c = search needs
@@ -59,14 +59,15 @@ loop-less c = omega arith
 
 loop-again : tie.Need-loop-again Inv-loop μ-loop
 loop-again c =
-    let first = c .before .before .before .before .before .before .loop .inv .1 in
-    (omega arith, c .next-server .ensures ∙ next-first _ _ _ first, led-more _ _ _ _ _ _ _ _ _ (c .before .before .before .before .before .before .loop .inv .2) (rw first at (c .before .before .before .leads-after .ensures) ∙ may-lead (c .before .before .before .before .before .before .before .before .args .c) (c .before .before .before .before .before .before .before .before .args .k) (c .before .before .before .before .before .before .before .before .args .r) (c .before .before .before .before .before .before .before .before .args .t4 .returned) _ _ (c .before .before .before .before .before .before .loop .a)) (c .before .record-after .ensures))
+    let l = c .before .before .before .before .before .before in
+    let a = l .before .before .args in
+    (omega arith, c .next-server .ensures ∙ next-first _ _ _ (l .loop .inv .1), led-more _ _ _ _ _ _ _ _ _ (l .loop .inv .2) (rw (l .loop .inv .1) at (c .before .before .before .leads-after .ensures) ∙ may-lead (a .c) (a .k) (a .r) (l .loop .t .returned) _ _ (l .loop .a)) (c .before .record-after .ensures))
 
 nothing-requires : tie.Need-nothing-requires Inv-loop μ-loop
 nothing-requires c κs = search needs
 
 returns : tie.Need-returns Inv-loop μ-loop
-unfolding noticed
+unfolding noticed leadingWith leadsAfter recordAfter
 returns c = rw (c .nothing .ensures, led-all _ _ _ _ _ _ _ (omega arith) (c .before .before .loop .inv .2))
 
 pub notice-spec : {M : Type 1} → statement M
