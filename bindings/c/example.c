@@ -40,7 +40,7 @@ static size_t run_by_steps(void) {
     }
     at += sprintf(lines + at, "facade %u %u %u\n", config[0], config[1], config[2]);
     for (size_t i = 0; i < NUMBERS; i += HOYLLAQE_STEP) {
-        uint32_t outcome = 0;
+        uint32_t outcome;
         uint32_t refusal = hoyllaqe_step(facade, HOYLLAQE_FACADE, steps[i], steps[i + 1], steps[i + 2], steps[i + 3], &outcome);
         at += sprintf(lines + at, "%zu %u %u %u %u\n", i / HOYLLAQE_STEP + 1, refusal, outcome, facade[TIME], facade[WAITING]);
     }
@@ -49,7 +49,7 @@ static size_t run_by_steps(void) {
 }
 
 int main(void) {
-    size_t length = 0;
+    size_t length;
     uint32_t refusal = hoyllaqe_write(config, HOYLLAQE_CONFIG, steps, NUMBERS, script, sizeof script, &length);
     if (refusal != 0 || hoyllaqe_verdict(script, length) != 0) {
         fprintf(stderr, "the script is refused\n");

@@ -1,5 +1,6 @@
-/* One server and one client, each with its own firmware, and this program in the place of the cable: a lease, a renewal and a return. After each call
- * it prints the refusal, the outcome, how many messages are sent, and the state of the client with its first two numbers. */
+/* One server and one client, each with its own firmware, and this program in the place of the cable: a lease, a renewal and a return, and then what
+ * is refused. After each call it prints the refusal, the outcome, how many messages are sent, and the state of the client with its first two numbers. A
+ * refusal leaves what was sent before as it is. */
 #include <stdio.h>
 
 #include "hoyllaqe.h"
@@ -55,6 +56,13 @@ int main(void) {
     reading = 22;
     print("pass time", hoyllaqe_pass_time(THE_CLIENT, ANSWERS));
     print("come back", hoyllaqe_come_back(THE_SERVER, ANSWERS));
+    print("discover", hoyllaqe_discover(THE_CLIENT, 3, ANSWERS));
+    carry();
+    print("receive message", hoyllaqe_receive_message(THE_SERVER, THE_MESSAGE, ANSWERS));
+    print("not for it", hoyllaqe_receive_reply(THE_CLIENT, THE_MESSAGE, ANSWERS));
+    print("says 2", hoyllaqe_take_notice(THE_SERVER, 1, 2, ANSWERS));
     print("past the end", hoyllaqe_take_notice(THE_SERVER, 2, 1, ANSWERS));
+    print("not offered", hoyllaqe_request(THE_CLIENT, 100, ANSWERS));
+    print("spent", hoyllaqe_discover(THE_CLIENT, 1000001, ANSWERS));
     return 0;
 }

@@ -6,7 +6,7 @@
  * of one call point to does not overlap. The libraries are for x86-64 and need memcpy and memset.
  *
  * Every function but hoyllaqe_run returns the refusal of document 01, 0 for none. A list of the wrong length, and a number that codes nothing, in an
- * unused place too, is refused with 2; 0 is right in every unused place. A refusal changes nothing behind any pointer.
+ * unused place too, is refused with 2; 0 is right in every unused place. A refusal leaves every list as it was, and sets outcome or length to 0.
  *
  * docs/FLAT-FORM.md has the layout of a facade, a server, a client and a message, number by number, and the kinds of steps, refusals and outcomes.
  */
@@ -52,9 +52,13 @@ size_t hoyllaqe_run(const uint8_t *script, size_t script_length, uint8_t *output
 
 /* One server or one client on its own: these functions are in target/staticlib/libfirmware.a.
  *
- * number is its number among the servers or among the clients, and reading its clock reading. The only refusal is 2: a list that codes nothing, a
- * number out of its range, a message for another party. Where nothing is refused, the server or client becomes the next one, sent is what it sends, and
- * outcome is as for a step; what the client's state does not allow has outcome 1.
+ * number is its number among the servers or among the clients, and reading its clock reading. A refusal is the first of these that holds:
+ *   2   a list that codes nothing, a number out of its range, a message for another party, interaction 0
+ *   5   says above 1, or a wanted end above 2,000,000,000
+ *   6   no server or client of that number; a notice about the server itself, or about one that does not exist
+ *   7   a discover by a client that holds, a request by one not offered, a renewal by one that does not hold
+ *   12  an interaction above 1,000,000
+ * Where nothing is refused, the server or client becomes the next one, sent is what it sends, and outcome is as for a step.
  *
  * A new server is 1, 0, 0, 1, 1, 1, 1 and then 0s, a new client 0s. Only hoyllaqe_receive_message looks at whether a server is alive. The firmware keeps
  * that first number of its server at 1, and calls hoyllaqe_pass_time whenever its client's clock moves: no other function ends a hold. */

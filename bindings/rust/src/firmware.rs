@@ -1,10 +1,13 @@
 //! One sealed server or one client on its own, as its firmware has it: numbers
 //! that it keeps, and what it sends. `docs/FLAT-FORM.md` has their layout.
 //!
-//! The only refusal is 2: a list that codes nothing, a number out of its range, a
-//! message for another party. What the client's state does not allow has outcome 1.
-//! The firmware keeps the first number of its server, alive, at 1, and calls
-//! `pass_time` whenever its client's clock moves: no other function ends a hold.
+//! A refusal is the first of these that holds: 2, a list that codes nothing, a number
+//! out of its range, a message for another party, interaction 0; 5, a wanted end above
+//! 2,000,000,000; 6, no server or client of that number, a notice about the server
+//! itself or about one that does not exist; 7, a client in the wrong state; 12, an
+//! interaction above 1,000,000. Whether a server is alive is not tested: the firmware
+//! keeps the first number of its server, alive, at 1, and calls `pass_time` whenever
+//! its client's clock moves: no other function ends a hold.
 
 use crate::raw;
 use crate::{accepted, Refusal};

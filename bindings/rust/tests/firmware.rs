@@ -1,8 +1,8 @@
 //! Rows of the paper, by one server or one client on its own: Δ=2, ν=5, μ=50, θ=10.
 
 use hoyllaqe::firmware::{
-    clean_up, come_back, discover, pass_time, receive_message, receive_reply, renew, take_notice,
-    Device, Done, CLIENT, MESSAGE, SERVER,
+    self, clean_up, come_back, discover, pass_time, receive_message, receive_reply, renew,
+    take_notice, Device, Done, CLIENT, MESSAGE, SERVER,
 };
 use hoyllaqe::Refusal;
 
@@ -109,7 +109,7 @@ fn a_client_asks_and_takes_an_offer() {
     let done = receive_message(at(105), &mut server, &first(&done)).unwrap();
     receive_reply(at(105), &mut client, &first(&done)).unwrap();
     assert_eq!(client, [2, 1, 0, 0]);
-    let done = hoyllaqe::firmware::request(at(105), &mut client, 120).unwrap();
+    let done = firmware::request(at(105), &mut client, 120).unwrap();
     assert_eq!((first(&done), client), (request(120), [3, 1, 0, 0]));
 }
 
@@ -127,4 +127,92 @@ fn what_codes_nothing_is_refused() {
     let before = server;
     assert_eq!(receive_message(at(105), &mut server, &request(120)), Err(Refusal(2)));
     assert_eq!(server, before);
+}
+
+/// The device with another number.
+fn numbered(number: u32) -> Device<'static> {
+    Device { number, ..at(105) }
+}
+
+/// What a call with a client in this state is refused with; the client is as it was.
+fn refused(state: [u32; CLIENT], call: impl Fn(&mut [u32]) -> Result<Done, Refusal>) -> u32 {
+    let mut client = state;
+    let refusal = call(&mut client).err().map_or(0, |Refusal(number)| number);
+    assert!(refusal == 0 || client == state);
+    refusal
+}
+
+const IDLE: [u32; CLIENT] = [0; CLIENT];
+const OFFERED: [u32; CLIENT] = [2, 1, 0, 0];
+const HOLDING: [u32; CLIENT] = [4, 0, 155, 1];
+
+#[test]
+fn a_client_is_refused_by_number() {
+    for (state, interaction, refusal) in [
+        (IDLE, 0, 2),
+        (IDLE, 1_000_000, 0),
+        (IDLE, 1_000_001, 12),
+        (IDLE, u32::MAX, 12),
+        (HOLDING, 0, 2),
+        (HOLDING, 1_000_001, 7),
+    ] {
+        assert_eq!(refused(state, |client| discover(at(105), client, interaction)), refusal);
+    }
+    for (number, state, wanted, refusal) in [
+        (0, OFFERED, 2_000_000_000, 0),
+        (0, OFFERED, 2_000_000_001, 5),
+        (1, IDLE, 2_000_000_001, 5),
+        (1, IDLE, 120, 6),
+        (0, IDLE, 120, 7),
+    ] {
+        let call = |client: &mut [u32]| firmware::request(numbered(number), client, wanted);
+        assert_eq!(refused(state, call), refusal);
+    }
+    for (state, interaction, refusal) in [
+        (HOLDING, 0, 2),
+        (HOLDING, 1_000_000, 0),
+        (HOLDING, 1_000_001, 12),
+        (OFFERED, 1_000_001, 7),
+    ] {
+        assert_eq!(refused(state, |client| renew(at(105), client, 120, interaction)), refusal);
+    }
+    assert_eq!(refused(HOLDING, |client| pass_time(numbered(1), client)), 6);
+}
+
+#[test]
+fn a_server_is_refused_by_number() {
+    for (number, about) in [(0, 0), (0, 2), (2, 1), (u32::MAX, 1)] {
+        assert_eq!(take_notice(numbered(number), &mut leader(), about, true), Err(Refusal(6)));
+    }
+    assert_eq!(come_back(numbered(2), &mut leader()), Err(Refusal(6)));
+    assert_eq!(clean_up(numbered(2), &mut leader()), Err(Refusal(6)));
+    let late = Device { reading: 1_000_001_001, ..numbered(2) };
+    assert_eq!(clean_up(late, &mut leader()), Err(Refusal(2)));
+    // Whether it is alive is not tested.
+    let mut dead = leader();
+    dead[ALIVE] = 0;
+    assert!(take_notice(at(105), &mut dead, 1, true).is_ok());
+}
+
+/// An offer of address 0, from server 0 to a party.
+fn offer(receiver: u32) -> [u32; MESSAGE] {
+    [0, receiver, 1, 2, 0, 0, 0]
+}
+
+#[test]
+fn a_message_for_another_party_is_refused_first() {
+    let asking = [1, 1, 0, 0];
+    for (number, receiver, refusal) in [(0, 2, 0), (0, 3, 2), (1, 2, 2), (1, 3, 2)] {
+        let call = |client: &mut [u32]| receive_reply(numbered(number), client, &offer(receiver));
+        assert_eq!(refused(asking, call), refusal);
+    }
+    // To server 1. The party number of this client, 4,294,967,297, is 1 in 32 bits.
+    let discover = [2, 1, 1, 1, 0, 0, 0];
+    let call = |client: &mut [u32]| receive_reply(numbered(u32::MAX), client, &discover);
+    assert_eq!(refused(asking, call), 2);
+    // Party 2 is a client: an offer to it is for that number, but there is no such server.
+    for (number, refusal) in [(1, 2), (2, 6)] {
+        let taken = receive_message(numbered(number), &mut leader(), &offer(2));
+        assert_eq!(taken, Err(Refusal(refusal)));
+    }
 }

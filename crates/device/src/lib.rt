@@ -1,12 +1,17 @@
-// What the firmware of one server, or of one client, calls. Nothing is trusted: what is out of range gives refusal 2, and changes and sends nothing.
+// What the firmware of one server, or of one client, calls. Nothing is trusted: what is refused, by the paper's number, changes and sends nothing.
 // c is the configuration, r the clock reading; k and s are a server's number and value, i and y a client's.
 use arith::both;
+use arith::unless;
+use client::is_holding;
+use client::is_offered;
 use outbox::nothing;
 use ranges::config_in_range;
-use ranges::interaction_in_range;
 use ranges::message_in_range;
 use ranges::server_in_range;
 use ranges::state_in_range;
+use refusals::client_barred;
+use steps::malformed;
+use types::Action;
 use types::Client;
 use types::ClientAnswer;
 use types::Config;
@@ -15,8 +20,11 @@ use types::Server;
 use types::ServerAnswer;
 use types::State;
 ghost use mathlib.Core.Path.{_≡_};
+ghost use mathlib.Core.Bool.{true};
+ghost use Rattle.rules.specs.Conditions.{_and_, unless as unlessOk};
+ghost use Rattle.rules.specs.Steps.{malformed as malformedOr};
 ghost use Rattle.rules.proofs.Kept.{Configured};
-ghost use Rattle.device.specs.Device.{messageFits, serverFits, noticeFits, serverTook, serverRefused, deviceReceives, deviceNoticed, deviceReturned, deviceCleaned, clientFits, clientTook, clientRefused, deviceHears, deviceDiscovers, deviceRequests, deviceRenews, deviceLapses};
+ghost use Rattle.device.specs.Device.{ownRefusal, messageFits, serverFits, serverTook, serverRefused, deviceReceives, deviceNoticed, deviceReturned, deviceCleaned, clientFits, clientTook, clientRefused, deviceHears, deviceDiscovers, deviceRequests, deviceRenews, deviceLapses};
 
 // What a server answers: the refusal or 0, then its value, the outcome and what it sends.
 pub struct ServerReply {
@@ -30,30 +38,40 @@ pub struct ClientReply {
     pub answer: ClientAnswer,
 }
 
-// Whether m is in range and for party p.
-fn message_fits(c: Config, p: u32, m: Message) -> bool
-    requires { ⌜ Configured c ⌝ }
-    ensures { λ x. ⌜ x ≡ messageFits c p m ⌝ }
+// Refusal 2 where something does not fit, 5 of what the step says, and else what the rules below give.
+fn first_refusal(fits: bool, a: Action, below: u32) -> u32
+    ensures { λ n. ⌜ n ≡ unlessOk fits 2 (malformedOr a below) ⌝ }
 {
-    both(m.receiver == p, message_in_range(c, 1000001, m))
+    let n = malformed(a);
+    unless(fits, 2, unless(n == 0, n, below))
 }
 
-// Whether all that server k has is in range.
-fn server_fits(c: Config, k: u32, r: u32, s: Server) -> bool
-    ensures { λ x. ⌜ x ≡ serverFits c k r s ⌝ }
+// Refusals 2 and 6 of a device that names only itself.
+fn own_refusal(fits: bool, there: bool) -> u32
+    ensures { λ n. ⌜ n ≡ ownRefusal fits there ⌝ }
 {
-    if config_in_range(c) {
-        let known = server_in_range(c, 1000000000, 1000001, s);
-        return both(k < c.servers, both(r <= 1000001000, known));
+    unless(fits, 2, unless(there, 6, 0))
+}
+
+// Whether m, too, is in range, and for party p. The number of a client may be any, so that of its party may pass 32 bits.
+fn message_fits(fits: bool, c: Config, p: u64, m: Message) -> bool
+    requires { ⌜ (fits ≡ true → Configured c) ⌝ }
+    ensures { λ x. ⌜ x ≡ (fits and messageFits c p m) ⌝ }
+{
+    if fits {
+        return both((m.receiver as u64) == p, message_in_range(c, 1000001, m));
     }
     false
 }
 
-// Whether a notice is about another server and says 0 or 1.
-fn notice_fits(c: Config, k: u32, about: u32, says: u32) -> bool
-    ensures { λ x. ⌜ x ≡ noticeFits c k about says ⌝ }
+// Whether the numbers of a server are in range.
+fn server_fits(c: Config, r: u32, s: Server) -> bool
+    ensures { λ x. ⌜ x ≡ serverFits c r s ⌝ }
 {
-    both(about < c.servers, both(!(about == k), says <= 1))
+    if config_in_range(c) {
+        return both(r <= 1000001000, server_in_range(c, 1000000000, 1000001, s));
+    }
+    false
 }
 
 // What the server answered, not refused.
@@ -66,9 +84,9 @@ fn server_took(x: ServerAnswer) -> ServerReply
     }
 }
 
-// Refusal 2: the server as it was.
-fn server_refused(s: Server) -> ServerReply
-    ensures { λ y. ⌜ y ≡ serverRefused s ⌝ }
+// Refusal n: the server as it was.
+fn server_refused(s: Server, n: u32) -> ServerReply
+    ensures { λ y. ⌜ y ≡ serverRefused s n ⌝ }
 {
     let none = nothing();
     let same = ServerAnswer {
@@ -77,7 +95,7 @@ fn server_refused(s: Server) -> ServerReply
         outbox: none,
     };
     ServerReply {
-        refusal: 2,
+        refusal: n,
         answer: same,
     }
 }
@@ -86,11 +104,10 @@ fn server_refused(s: Server) -> ServerReply
 pub fn receive_message(c: Config, k: u32, r: u32, s: Server, m: Message) -> ServerReply
     ensures { λ x. ⌜ x ≡ deviceReceives c k r s m ⌝ }
 {
-    if !server_fits(c, k, r, s) {
-        return server_refused(s);
-    }
-    if !message_fits(c, k, m) {
-        return server_refused(s);
+    let fits = message_fits(server_fits(c, r, s), c, k as u64, m);
+    let n = own_refusal(fits, k < c.servers);
+    if n != 0 {
+        return server_refused(s, n);
     }
     server_took(server::receive(c, k, r, s, m))
 }
@@ -99,38 +116,43 @@ pub fn receive_message(c: Config, k: u32, r: u32, s: Server, m: Message) -> Serv
 pub fn take_notice(c: Config, k: u32, r: u32, s: Server, about: u32, says: u32) -> ServerReply
     ensures { λ x. ⌜ x ≡ deviceNoticed c k r s about says ⌝ }
 {
-    if both(server_fits(c, k, r, s), notice_fits(c, k, about, says)) {
-        return server_took(server::notice(c, k, r, s, about, says));
+    let named = both(k < c.servers, both(about < c.servers, !(about == k)));
+    let a = Action::Notice(k, about, says);
+    let n = first_refusal(server_fits(c, r, s), a, unless(named, 6, 0));
+    if n != 0 {
+        return server_refused(s, n);
     }
-    server_refused(s)
+    server_took(server::notice(c, k, r, s, about, says))
 }
 
 // The server comes back after a failure. Whether it is alive is not its own to say: `alive` stays as given.
 pub fn come_back(c: Config, k: u32, r: u32, s: Server) -> ServerReply
     ensures { λ x. ⌜ x ≡ deviceReturned c k r s ⌝ }
 {
-    if server_fits(c, k, r, s) {
-        return server_took(server::come_back(r, s));
+    let n = own_refusal(server_fits(c, r, s), k < c.servers);
+    if n != 0 {
+        return server_refused(s, n);
     }
-    server_refused(s)
+    server_took(server::come_back(r, s))
 }
 
 // Old reservations are dropped.
 pub fn clean_up(c: Config, k: u32, r: u32, s: Server) -> ServerReply
     ensures { λ x. ⌜ x ≡ deviceCleaned c k r s ⌝ }
 {
-    if server_fits(c, k, r, s) {
-        return server_took(server::clean_up(c, r, s));
+    let n = own_refusal(server_fits(c, r, s), k < c.servers);
+    if n != 0 {
+        return server_refused(s, n);
     }
-    server_refused(s)
+    server_took(server::clean_up(c, r, s))
 }
 
-// Whether all that client i has is in range.
-fn client_fits(c: Config, i: u32, r: u32, x: State) -> bool
-    ensures { λ y. ⌜ y ≡ clientFits c i r x ⌝ }
+// Whether the numbers of a client are in range.
+fn client_fits(c: Config, r: u32, x: State) -> bool
+    ensures { λ y. ⌜ y ≡ clientFits c r x ⌝ }
 {
     let own = both(r <= 1000001000, state_in_range(c, 1000001, x));
-    both(config_in_range(c), both(i < c.clients, own))
+    both(config_in_range(c), own)
 }
 
 // What the client answered, not refused.
@@ -143,9 +165,9 @@ fn client_took(x: ClientAnswer) -> ClientReply
     }
 }
 
-// Refusal 2: the client as it was.
-fn client_refused(y: Client) -> ClientReply
-    ensures { λ z. ⌜ z ≡ clientRefused y ⌝ }
+// Refusal n: the client as it was.
+fn client_refused(y: Client, n: u32) -> ClientReply
+    ensures { λ z. ⌜ z ≡ clientRefused y n ⌝ }
 {
     let none = nothing();
     let same = ClientAnswer {
@@ -154,7 +176,7 @@ fn client_refused(y: Client) -> ClientReply
         outbox: none,
     };
     ClientReply {
-        refusal: 2,
+        refusal: n,
         answer: same,
     }
 }
@@ -164,11 +186,11 @@ pub fn receive_reply(c: Config, i: u32, r: u32, y: Client, m: Message) -> Client
     ensures { λ z. ⌜ z ≡ deviceHears c i r y m ⌝ }
 {
     let x = y.state;
-    if !client_fits(c, i, r, x) {
-        return client_refused(y);
-    }
-    if !message_fits(c, c.servers + i, m) {
-        return client_refused(y);
+    let party = (c.servers as u64) + (i as u64);
+    let fits = message_fits(client_fits(c, r, x), c, party, m);
+    let n = own_refusal(fits, i < c.clients);
+    if n != 0 {
+        return client_refused(y, n);
     }
     client_took(client::receive(r, x, m))
 }
@@ -178,10 +200,14 @@ pub fn discover(c: Config, i: u32, r: u32, y: Client, q: u32) -> ClientReply
     ensures { λ z. ⌜ z ≡ deviceDiscovers c i r y q ⌝ }
 {
     let x = y.state;
-    if both(client_fits(c, i, r, x), interaction_in_range(1000001, q)) {
-        return client_took(client::discover(c, i, x, q));
+    let fits = both(client_fits(c, r, x), 1 <= q);
+    let holds = is_holding(x);
+    let below = client_barred(c, i, !holds, q <= 1000000);
+    let n = first_refusal(fits, Action::Discover(i), below);
+    if n != 0 {
+        return client_refused(y, n);
     }
-    client_refused(y)
+    client_took(client::discover(c, i, x, q))
 }
 
 // A request with the wanted end t.
@@ -189,10 +215,12 @@ pub fn request(c: Config, i: u32, r: u32, y: Client, t: u32) -> ClientReply
     ensures { λ z. ⌜ z ≡ deviceRequests c i r y t ⌝ }
 {
     let x = y.state;
-    if both(client_fits(c, i, r, x), t <= 2000000000) {
-        return client_took(client::request(c, i, x, t));
+    let below = client_barred(c, i, is_offered(x), true);
+    let n = first_refusal(client_fits(c, r, x), Action::Request(i, t), below);
+    if n != 0 {
+        return client_refused(y, n);
     }
-    client_refused(y)
+    client_took(client::request(c, i, x, t))
 }
 
 // A renewal with the wanted end t and the new interaction q.
@@ -200,11 +228,14 @@ pub fn renew(c: Config, i: u32, r: u32, y: Client, t: u32, q: u32) -> ClientRepl
     ensures { λ z. ⌜ z ≡ deviceRenews c i r y t q ⌝ }
 {
     let x = y.state;
-    let wanted = both(t <= 2000000000, interaction_in_range(1000001, q));
-    if both(client_fits(c, i, r, x), wanted) {
-        return client_took(client::renew(c, i, x, t, q));
+    let fits = both(client_fits(c, r, x), 1 <= q);
+    let holds = is_holding(x);
+    let below = client_barred(c, i, holds, q <= 1000000);
+    let n = first_refusal(fits, Action::Renew(i, t), below);
+    if n != 0 {
+        return client_refused(y, n);
     }
-    client_refused(y)
+    client_took(client::renew(c, i, x, t, q))
 }
 
 // Time passes: a hold whose end is not above the clock is over.
@@ -212,17 +243,18 @@ pub fn pass_time(c: Config, i: u32, r: u32, y: Client) -> ClientReply
     ensures { λ z. ⌜ z ≡ deviceLapses c i r y ⌝ }
 {
     let x = y.state;
-    if client_fits(c, i, r, x) {
-        let none = nothing();
-        let after = Client {
-            state: client::lapse(r, x),
-        };
-        let done = ClientAnswer {
-            client: after,
-            outcome: 0,
-            outbox: none,
-        };
-        return client_took(done);
+    let n = own_refusal(client_fits(c, r, x), i < c.clients);
+    if n != 0 {
+        return client_refused(y, n);
     }
-    client_refused(y)
+    let none = nothing();
+    let after = Client {
+        state: client::lapse(r, x),
+    };
+    let done = ClientAnswer {
+        client: after,
+        outcome: 0,
+        outbox: none,
+    };
+    client_took(done)
 }

@@ -63,17 +63,17 @@ module _ (c l : List ℕ) where
           let whole = whole-put (x .facade) l k f p in
           (sym z ∙ starts, (rw (← starts, z, ← e) whole, λ _. rw whole (facade-coded (x .facade) f)))
 
--- A step of a facade handed in, and o, where its outcome goes.
-module _ (l : List ℕ) (s : Step) (o : ℕ) where
+-- A step of a facade handed in.
+module _ (l : List ℕ) (s : Step) where
   abbrev Answered : ℕ → List ℕ → ℕ → Type 0
   Answered n m p =
-      (n ≡ handedRefusal l s) × ((m ≡ handedNumbers l s) × ((p ≡ handedOutcome l s o) × (n ≡ 0 → isFacade m ≡ true)))
+      (n ≡ handedRefusal l s) × ((m ≡ handedNumbers l s) × ((p ≡ handedOutcome l s) × (n ≡ 0 → isFacade m ≡ true)))
 
-  step-left : {n : ℕ} → n ≡ handedRefusal l s → (n ≡ 0 → ⊥) → Answered n l o
+  step-left : {n : ℕ} → n ≡ handedRefusal l s → (n ≡ 0 → ⊥) → Answered n l 0
   unfolding handedNumbers handedOutcome
   step-left {n} e z = (e, (rw (← e, ne-eqb n 0 z), (rw (← e, ne-eqb n 0 z), λ k. absurd (z k))))
 
-  pub codes-nothing : isFacade l ≡ false → Answered 2 l o
+  pub codes-nothing : isFacade l ≡ false → Answered 2 l 0
   unfolding handedRefusal
   codes-nothing h = step-left (rw h) (λ z. omega arith)
 
@@ -82,7 +82,7 @@ module _ (l : List ℕ) (s : Step) (o : ℕ) where
     unfolding handedRefusal
     steps = rw (h, e)
 
-    pub step-refused : (x .refusal ≡ 0 → ⊥) → Answered (x .refusal) l o
+    pub step-refused : (x .refusal ≡ 0 → ⊥) → Answered (x .refusal) l 0
     step-refused z = step-left steps z
 
     pub step-put : {m : List ℕ} → x .refusal ≡ 0 → FacadeShaped (x .facade) → m ≡ over l 0 (facadeNumbers (x .facade))
@@ -92,23 +92,23 @@ module _ (l : List ℕ) (s : Step) (o : ℕ) where
         let whole = whole-put (x .facade) l (its-length l h) f p in
         (sym z ∙ steps, (rw (← steps, z, ← e) whole, (rw (← steps, z, ← e), λ _. rw whole (facade-coded (x .facade) f))))
 
--- A script into out, of the configuration in c and the steps in l; o is where its length goes.
-module _ (c l out : List ℕ) (o : ℕ) where
+-- A script into out, of the configuration in c and the steps in l.
+module _ (c l out : List ℕ) where
   abbrev Wrote : ℕ → List ℕ → ℕ → Type 0
-  Wrote n m p = (n ≡ writtenRefusal c l (length out)) × ((m ≡ writtenScript c l out) × (p ≡ writtenLength c l (length out) o))
+  Wrote n m p = (n ≡ writtenRefusal c l (length out)) × ((m ≡ writtenScript c l out) × (p ≡ writtenLength c l (length out)))
 
-  pub no-config-written : (length c ≡ 7 → ⊥) → Wrote 2 out o
+  pub no-config-written : (length c ≡ 7 → ⊥) → Wrote 2 out 0
   unfolding writtenRefusal writtenScript writtenLength _and_
   no-config-written h = rw (ne-eqb (length c) 7 h) (refl, (refl, refl))
 
   module _ (h : length c ≡ 7) where
-    pub no-steps-written : (length l % 4 ≡ 0 → ⊥) → Wrote 2 out o
+    pub no-steps-written : (length l % 4 ≡ 0 → ⊥) → Wrote 2 out 0
     unfolding writtenRefusal writtenScript writtenLength _and_
     no-steps-written k = rw (eq-eqb (length c) 7 h, ne-eqb (length l % 4) 0 k) (refl, (refl, refl))
 
     module _ (k : length l % 4 ≡ 0) {w : Written} (e : w ≡ written (configIn c 0) (stepsIn l) (length out))
         {m : List ℕ} (p : m ≡ buffer (configIn c 0) (stepsIn l) out) where
-      pub write-refused : (w .refusal ≡ 0 → ⊥) → Wrote (w .refusal) m o
+      pub write-refused : (w .refusal ≡ 0 → ⊥) → Wrote (w .refusal) m 0
       unfolding writtenRefusal writtenScript writtenLength _and_
       write-refused z = rw (eq-eqb (length c) 7 h, eq-eqb (length l % 4) 0 k, ← e, ne-eqb (w .refusal) 0 z) (refl, (p, refl))
 

@@ -1,6 +1,6 @@
 -- What programs in other languages are given: fresh, step, verdict, writer and run on lists of numbers. A list of the wrong length, and one
 -- with a number that codes nothing, is refused with 2: "A number of a configuration or of a facade handed in is outside its range."
--- A refusal leaves every list as it was.
+-- A refusal leaves every list as it was, and the outcome or length is 0.
 use mathlib.Core.Bool.{Bool, cond}
 use mathlib.Core.List.{List}
 use Prim.Native.Nat.{ℕ, _%_}
@@ -33,9 +33,9 @@ handedRefusal l s = cond (isFacade l) ((step (facadeIn l) s) .refusal) 2
 unfoldable pub handedNumbers : List ℕ → Step → List ℕ
 handedNumbers l s = given (handedRefusal l s) (step (facadeIn l) s) l
 
--- the outcome, or n as it was where the step is refused
-unfoldable pub handedOutcome : List ℕ → Step → ℕ → ℕ
-handedOutcome l s n = cond (eqb (handedRefusal l s) 0) ((step (facadeIn l) s) .outcome) n
+-- "outcome (0 if refused)"
+unfoldable pub handedOutcome : List ℕ → Step → ℕ
+handedOutcome l s = cond (eqb (handedRefusal l s) 0) ((step (facadeIn l) s) .outcome) 0
 
 -- A script, of the configuration in c and the steps in l, four numbers each.
 
@@ -48,6 +48,6 @@ writtenRefusal c l room = cond (areSteps c l) ((written (configIn c 0) (stepsIn 
 unfoldable pub writtenScript : List ℕ → List ℕ → List ℕ → List ℕ
 writtenScript c l out = cond (areSteps c l) (buffer (configIn c 0) (stepsIn l) out) out
 
--- the length, or n as it was where the script is refused
-unfoldable pub writtenLength : List ℕ → List ℕ → ℕ → ℕ → ℕ
-writtenLength c l room n = cond (eqb (writtenRefusal c l room) 0) ((written (configIn c 0) (stepsIn l) room) .length) n
+-- the length, 0 where the script is refused
+unfoldable pub writtenLength : List ℕ → List ℕ → ℕ → ℕ
+writtenLength c l room = cond (eqb (writtenRefusal c l room) 0) ((written (configIn c 0) (stepsIn l) room) .length) 0

@@ -1,6 +1,6 @@
 // What programs in other languages call: the project's functions on numbers and slices. Nothing is trusted: a list of the wrong
-// length, and one with a number that codes nothing, is refused with 2. A refusal changes nothing behind any reference. A facade that
-// was put codes one again, so the next step can be taken of it.
+// length, and one with a number that codes nothing, is refused with 2. A refusal leaves every list as it was, and gives outcome and
+// length 0. A facade that was put codes one again, so the next step can be taken of it.
 use facade::fresh;
 use facade::step;
 use flat::config_in;
@@ -50,9 +50,10 @@ pub extern "C" fn hoyllaqe_step(
 ) -> u32
     ensures { λ r. ⌜ r ≡ handedRefusal (now (facade .entry)) (record { kind = kind; first = first; second = second; third = third }) ⌝ }
     ensures { λ _. ⌜ now (facade .exit) ≡ handedNumbers (now (facade .entry)) (record { kind = kind; first = first; second = second; third = third }) ⌝ }
-    ensures { λ _. ⌜ now (outcome .exit) ≡ handedOutcome (now (facade .entry)) (record { kind = kind; first = first; second = second; third = third }) (now (outcome .entry)) ⌝ }
+    ensures { λ _. ⌜ now (outcome .exit) ≡ handedOutcome (now (facade .entry)) (record { kind = kind; first = first; second = second; third = third }) ⌝ }
     ensures { λ r. ⌜ (r ≡ 0 → isFacade (now (facade .exit)) ≡ true) ⌝ }
 {
+    *outcome = 0;
     if !is_facade(facade) {
         return 2;
     }
@@ -90,8 +91,9 @@ pub extern "C" fn hoyllaqe_write(
 ) -> u32
     ensures { λ r. ⌜ r ≡ writtenRefusal (now (config .entry)) (now (steps .entry)) (length (now (script .entry))) ⌝ }
     ensures { λ _. ⌜ now (script .exit) ≡ writtenScript (now (config .entry)) (now (steps .entry)) (now (script .entry)) ⌝ }
-    ensures { λ _. ⌜ now (size .exit) ≡ writtenLength (now (config .entry)) (now (steps .entry)) (length (now (script .entry))) (now (size .entry)) ⌝ }
+    ensures { λ _. ⌜ now (size .exit) ≡ writtenLength (now (config .entry)) (now (steps .entry)) (length (now (script .entry))) ⌝ }
 {
+    *size = 0;
     if config.len() != 7 {
         return 2;
     }

@@ -49,18 +49,18 @@ message-length b m e =
 pub tests-are : (p q b v w z : Bool) → v ≡ b → w ≡ (q and v) → z ≡ (p and w) → z ≡ (p and q and b)
 tests-are p q b v w z d e f = rw (f, e, d)
 
--- What is left of the lists p and o and of the outcome n.
-module _ (refusal : ℕ) (numbers : List ℕ) (messages : Outbox) (outcome : ℕ) (p o : List ℕ) (n : ℕ) where
-  pub refused : (refusal ≡ 0 → ⊥) → leaves refusal p o n ≡ given refusal numbers messages outcome p o n
+-- What is left of the lists p and o, and the outcome.
+module _ (refusal : ℕ) (numbers : List ℕ) (messages : Outbox) (outcome : ℕ) (p o : List ℕ) where
+  pub refused : (refusal ≡ 0 → ⊥) → leaves refusal p o 0 ≡ given refusal numbers messages outcome p o
   unfolding given
   refused z = rw (ne-eqb refusal 0 z)
 
-  pub codes-nothing : (b : Bool) → b ≡ false → leaves 2 p o n ≡ given (cond b refusal 2) numbers messages outcome p o n
+  pub codes-nothing : (b : Bool) → b ≡ false → leaves 2 p o 0 ≡ given (cond b refusal 2) numbers messages outcome p o
   unfolding given
   codes-nothing b h = rw h
 
   pub put : (w : ℕ) → refusal ≡ 0 → length p ≡ w → length numbers ≡ w → length o ≡ 29 → OutboxShaped messages
-      → {q u : List ℕ} → q ≡ over p 0 numbers → u ≡ over o 0 (outboxNumbers messages) → leaves 0 q u outcome ≡ given refusal numbers messages outcome p o n
+      → {q u : List ℕ} → q ≡ over p 0 numbers → u ≡ over o 0 (outboxNumbers messages) → leaves 0 q u outcome ≡ given refusal numbers messages outcome p o
   unfolding given
   put w z h k i j d e =
       rw (z, d ∙ over-whole p numbers (k ∙ sym h), e ∙ over-whole o (outboxNumbers messages) (outbox-back .width messages j ∙ sym i))

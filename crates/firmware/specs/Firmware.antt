@@ -1,7 +1,7 @@
 -- What the firmware of one server, or of one client, links: each function of a device on lists of numbers. A list of the wrong length, and one with a
 -- number that codes nothing, is refused with 2: "A number of a configuration or of a facade handed in is outside its range."
--- A refusal leaves every list as it was.
--- c, s, y and m are the lists of the configuration, the server, the client and the message; o is the list for what is sent, n where the outcome goes.
+-- A refusal leaves every list as it was, with outcome 0.
+-- c, s, y and m are the lists of the configuration, the server, the client and the message; o is the list for what is sent.
 -- k is a server's number, i a client's, r the clock reading.
 use mathlib.Core.Bool.{Bool, cond}
 use mathlib.Core.List.{List}
@@ -25,54 +25,54 @@ pub record Left : Type 0 where
 abbrev pub leaves : ℕ → List ℕ → List ℕ → ℕ → Left
 leaves refusal p o n = record { refusal = refusal; party = p; sent = o; outcome = n }
 
--- the new numbers of the party, messages and outcome in the place of p, o and n, which a refusal leaves
-unfoldable pub given : ℕ → List ℕ → Outbox → ℕ → List ℕ → List ℕ → ℕ → Left
-given refusal numbers messages outcome p o n =
-    cond (eqb refusal 0) (leaves 0 numbers (outboxNumbers messages) outcome) (leaves refusal p o n)
+-- the outcome, and the new numbers of the party and messages in the place of p and o, which a refusal leaves: "outcome (0 if refused)"
+unfoldable pub given : ℕ → List ℕ → Outbox → ℕ → List ℕ → List ℕ → Left
+given refusal numbers messages outcome p o =
+    cond (eqb refusal 0) (leaves 0 numbers (outboxNumbers messages) outcome) (leaves refusal p o 0)
 
 -- A server: b is whether the lists code what they stand for, x what the device replies.
 
-abbrev pub serverLeft : Bool → ServerReply → List ℕ → List ℕ → ℕ → Left
-serverLeft b x s o n = given (cond b (x .refusal) 2) (serverNumbers (x .answer .server)) (x .answer .outbox) (x .answer .outcome) s o n
+abbrev pub serverLeft : Bool → ServerReply → List ℕ → List ℕ → Left
+serverLeft b x s o = given (cond b (x .refusal) 2) (serverNumbers (x .answer .server)) (x .answer .outbox) (x .answer .outcome) s o
 
 unfoldable pub codesServer : List ℕ → List ℕ → List ℕ → Bool
 codesServer c s o = eqb (length c) 7 and eqb (length o) 29 and isServer s
 
-unfoldable pub messageLeft : List ℕ → ℕ → ℕ → List ℕ → List ℕ → List ℕ → ℕ → Left
-messageLeft c k r s m o n =
-    serverLeft (codesServer c s o and isMessage m) (deviceReceives (configIn c 0) k r (serverIn s 0) (messageIn m 0)) s o n
+unfoldable pub messageLeft : List ℕ → ℕ → ℕ → List ℕ → List ℕ → List ℕ → Left
+messageLeft c k r s m o =
+    serverLeft (codesServer c s o and isMessage m) (deviceReceives (configIn c 0) k r (serverIn s 0) (messageIn m 0)) s o
 
-unfoldable pub noticeLeft : List ℕ → ℕ → ℕ → List ℕ → ℕ → ℕ → List ℕ → ℕ → Left
-noticeLeft c k r s about says o n = serverLeft (codesServer c s o) (deviceNoticed (configIn c 0) k r (serverIn s 0) about says) s o n
+unfoldable pub noticeLeft : List ℕ → ℕ → ℕ → List ℕ → ℕ → ℕ → List ℕ → Left
+noticeLeft c k r s about says o = serverLeft (codesServer c s o) (deviceNoticed (configIn c 0) k r (serverIn s 0) about says) s o
 
-unfoldable pub returnLeft : List ℕ → ℕ → ℕ → List ℕ → List ℕ → ℕ → Left
-returnLeft c k r s o n = serverLeft (codesServer c s o) (deviceReturned (configIn c 0) k r (serverIn s 0)) s o n
+unfoldable pub returnLeft : List ℕ → ℕ → ℕ → List ℕ → List ℕ → Left
+returnLeft c k r s o = serverLeft (codesServer c s o) (deviceReturned (configIn c 0) k r (serverIn s 0)) s o
 
-unfoldable pub cleanupLeft : List ℕ → ℕ → ℕ → List ℕ → List ℕ → ℕ → Left
-cleanupLeft c k r s o n = serverLeft (codesServer c s o) (deviceCleaned (configIn c 0) k r (serverIn s 0)) s o n
+unfoldable pub cleanupLeft : List ℕ → ℕ → ℕ → List ℕ → List ℕ → Left
+cleanupLeft c k r s o = serverLeft (codesServer c s o) (deviceCleaned (configIn c 0) k r (serverIn s 0)) s o
 
 -- A client.
 
-abbrev pub clientLeft : Bool → ClientReply → List ℕ → List ℕ → ℕ → Left
-clientLeft b x y o n = given (cond b (x .refusal) 2) (clientNumbers (x .answer .client)) (x .answer .outbox) (x .answer .outcome) y o n
+abbrev pub clientLeft : Bool → ClientReply → List ℕ → List ℕ → Left
+clientLeft b x y o = given (cond b (x .refusal) 2) (clientNumbers (x .answer .client)) (x .answer .outbox) (x .answer .outcome) y o
 
 unfoldable pub codesClient : List ℕ → List ℕ → List ℕ → Bool
 codesClient c y o = eqb (length c) 7 and eqb (length o) 29 and isClient y
 
-unfoldable pub replyLeft : List ℕ → ℕ → ℕ → List ℕ → List ℕ → List ℕ → ℕ → Left
-replyLeft c i r y m o n =
-    clientLeft (codesClient c y o and isMessage m) (deviceHears (configIn c 0) i r (clientIn y 0) (messageIn m 0)) y o n
+unfoldable pub replyLeft : List ℕ → ℕ → ℕ → List ℕ → List ℕ → List ℕ → Left
+replyLeft c i r y m o =
+    clientLeft (codesClient c y o and isMessage m) (deviceHears (configIn c 0) i r (clientIn y 0) (messageIn m 0)) y o
 
 -- q is the new interaction
-unfoldable pub discoverLeft : List ℕ → ℕ → ℕ → List ℕ → ℕ → List ℕ → ℕ → Left
-discoverLeft c i r y q o n = clientLeft (codesClient c y o) (deviceDiscovers (configIn c 0) i r (clientIn y 0) q) y o n
+unfoldable pub discoverLeft : List ℕ → ℕ → ℕ → List ℕ → ℕ → List ℕ → Left
+discoverLeft c i r y q o = clientLeft (codesClient c y o) (deviceDiscovers (configIn c 0) i r (clientIn y 0) q) y o
 
 -- t is the wanted end
-unfoldable pub requestLeft : List ℕ → ℕ → ℕ → List ℕ → ℕ → List ℕ → ℕ → Left
-requestLeft c i r y t o n = clientLeft (codesClient c y o) (deviceRequests (configIn c 0) i r (clientIn y 0) t) y o n
+unfoldable pub requestLeft : List ℕ → ℕ → ℕ → List ℕ → ℕ → List ℕ → Left
+requestLeft c i r y t o = clientLeft (codesClient c y o) (deviceRequests (configIn c 0) i r (clientIn y 0) t) y o
 
-unfoldable pub renewLeft : List ℕ → ℕ → ℕ → List ℕ → ℕ → ℕ → List ℕ → ℕ → Left
-renewLeft c i r y t q o n = clientLeft (codesClient c y o) (deviceRenews (configIn c 0) i r (clientIn y 0) t q) y o n
+unfoldable pub renewLeft : List ℕ → ℕ → ℕ → List ℕ → ℕ → ℕ → List ℕ → Left
+renewLeft c i r y t q o = clientLeft (codesClient c y o) (deviceRenews (configIn c 0) i r (clientIn y 0) t q) y o
 
-unfoldable pub lapseLeft : List ℕ → ℕ → ℕ → List ℕ → List ℕ → ℕ → Left
-lapseLeft c i r y o n = clientLeft (codesClient c y o) (deviceLapses (configIn c 0) i r (clientIn y 0)) y o n
+unfoldable pub lapseLeft : List ℕ → ℕ → ℕ → List ℕ → List ℕ → Left
+lapseLeft c i r y o = clientLeft (codesClient c y o) (deviceLapses (configIn c 0) i r (clientIn y 0)) y o

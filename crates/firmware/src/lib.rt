@@ -1,5 +1,5 @@
 // What the firmware of one server, or of one client, links: the functions of crate `device` on numbers and slices. Nothing is trusted: a list
-// of the wrong length, and one with a number that codes nothing, is refused with 2. A refusal changes nothing behind any reference.
+// of the wrong length, and one with a number that codes nothing, is refused with 2. A refusal leaves every list as it was, and gives outcome 0.
 use arith::both;
 use device::ClientReply;
 use device::ServerReply;
@@ -25,13 +25,14 @@ fn codes_server(config: &[u32], server: &[u32], sent: &[u32]) -> bool
     both(config.len() == 7, both(sent.len() == 29, is_server(server)))
 }
 
-// The reply of a server: put where it is not refused.
+// The reply of a server: put where it is not refused, and else outcome 0.
 fn put_server_reply(x: ServerReply, server: &mut [u32], sent: &mut [u32], outcome: &mut u32) -> u32
     requires { ⌜ length (now server) ≡ 423 ⌝ }
     requires { ⌜ length (now sent) ≡ 29 ⌝ }
-    ensures { λ n. ⌜ leaves n (now (server .exit)) (now (sent .exit)) (now (outcome .exit)) ≡ serverLeft true x (now (server .entry)) (now (sent .entry)) (now (outcome .entry)) ⌝ }
+    ensures { λ n. ⌜ leaves n (now (server .exit)) (now (sent .exit)) (now (outcome .exit)) ≡ serverLeft true x (now (server .entry)) (now (sent .entry)) ⌝ }
 {
     if x.refusal != 0 {
+        *outcome = 0;
         return x.refusal;
     }
     let answer = x.answer;
@@ -54,9 +55,10 @@ pub extern "C" fn hoyllaqe_receive_message(
     sent: &mut [u32],
     outcome: &mut u32,
 ) -> u32
-    ensures { λ n. ⌜ leaves n (now (server .exit)) (now (sent .exit)) (now (outcome .exit)) ≡ messageLeft (now (config .entry)) number reading (now (server .entry)) (now (message .entry)) (now (sent .entry)) (now (outcome .entry)) ⌝ }
+    ensures { λ n. ⌜ leaves n (now (server .exit)) (now (sent .exit)) (now (outcome .exit)) ≡ messageLeft (now (config .entry)) number reading (now (server .entry)) (now (message .entry)) (now (sent .entry)) ⌝ }
 {
     if !both(codes_server(config, server, sent), is_message(message)) {
+        *outcome = 0;
         return 2;
     }
     let c = config_in(config, 0);
@@ -78,9 +80,10 @@ pub extern "C" fn hoyllaqe_take_notice(
     sent: &mut [u32],
     outcome: &mut u32,
 ) -> u32
-    ensures { λ n. ⌜ leaves n (now (server .exit)) (now (sent .exit)) (now (outcome .exit)) ≡ noticeLeft (now (config .entry)) number reading (now (server .entry)) about says (now (sent .entry)) (now (outcome .entry)) ⌝ }
+    ensures { λ n. ⌜ leaves n (now (server .exit)) (now (sent .exit)) (now (outcome .exit)) ≡ noticeLeft (now (config .entry)) number reading (now (server .entry)) about says (now (sent .entry)) ⌝ }
 {
     if !codes_server(config, server, sent) {
+        *outcome = 0;
         return 2;
     }
     let c = config_in(config, 0);
@@ -99,9 +102,10 @@ pub extern "C" fn hoyllaqe_come_back(
     sent: &mut [u32],
     outcome: &mut u32,
 ) -> u32
-    ensures { λ n. ⌜ leaves n (now (server .exit)) (now (sent .exit)) (now (outcome .exit)) ≡ returnLeft (now (config .entry)) number reading (now (server .entry)) (now (sent .entry)) (now (outcome .entry)) ⌝ }
+    ensures { λ n. ⌜ leaves n (now (server .exit)) (now (sent .exit)) (now (outcome .exit)) ≡ returnLeft (now (config .entry)) number reading (now (server .entry)) (now (sent .entry)) ⌝ }
 {
     if !codes_server(config, server, sent) {
+        *outcome = 0;
         return 2;
     }
     let c = config_in(config, 0);
@@ -120,9 +124,10 @@ pub extern "C" fn hoyllaqe_clean_up(
     sent: &mut [u32],
     outcome: &mut u32,
 ) -> u32
-    ensures { λ n. ⌜ leaves n (now (server .exit)) (now (sent .exit)) (now (outcome .exit)) ≡ cleanupLeft (now (config .entry)) number reading (now (server .entry)) (now (sent .entry)) (now (outcome .entry)) ⌝ }
+    ensures { λ n. ⌜ leaves n (now (server .exit)) (now (sent .exit)) (now (outcome .exit)) ≡ cleanupLeft (now (config .entry)) number reading (now (server .entry)) (now (sent .entry)) ⌝ }
 {
     if !codes_server(config, server, sent) {
+        *outcome = 0;
         return 2;
     }
     let c = config_in(config, 0);
@@ -138,13 +143,14 @@ fn codes_client(config: &[u32], client: &[u32], sent: &[u32]) -> bool
     both(config.len() == 7, both(sent.len() == 29, is_client(client)))
 }
 
-// The reply of a client: put where it is not refused.
+// The reply of a client: put where it is not refused, and else outcome 0.
 fn put_client_reply(z: ClientReply, client: &mut [u32], sent: &mut [u32], outcome: &mut u32) -> u32
     requires { ⌜ length (now client) ≡ 4 ⌝ }
     requires { ⌜ length (now sent) ≡ 29 ⌝ }
-    ensures { λ n. ⌜ leaves n (now (client .exit)) (now (sent .exit)) (now (outcome .exit)) ≡ clientLeft true z (now (client .entry)) (now (sent .entry)) (now (outcome .entry)) ⌝ }
+    ensures { λ n. ⌜ leaves n (now (client .exit)) (now (sent .exit)) (now (outcome .exit)) ≡ clientLeft true z (now (client .entry)) (now (sent .entry)) ⌝ }
 {
     if z.refusal != 0 {
+        *outcome = 0;
         return z.refusal;
     }
     let answer = z.answer;
@@ -167,9 +173,10 @@ pub extern "C" fn hoyllaqe_receive_reply(
     sent: &mut [u32],
     outcome: &mut u32,
 ) -> u32
-    ensures { λ n. ⌜ leaves n (now (client .exit)) (now (sent .exit)) (now (outcome .exit)) ≡ replyLeft (now (config .entry)) number reading (now (client .entry)) (now (message .entry)) (now (sent .entry)) (now (outcome .entry)) ⌝ }
+    ensures { λ n. ⌜ leaves n (now (client .exit)) (now (sent .exit)) (now (outcome .exit)) ≡ replyLeft (now (config .entry)) number reading (now (client .entry)) (now (message .entry)) (now (sent .entry)) ⌝ }
 {
     if !both(codes_client(config, client, sent), is_message(message)) {
+        *outcome = 0;
         return 2;
     }
     let c = config_in(config, 0);
@@ -190,9 +197,10 @@ pub extern "C" fn hoyllaqe_discover(
     sent: &mut [u32],
     outcome: &mut u32,
 ) -> u32
-    ensures { λ n. ⌜ leaves n (now (client .exit)) (now (sent .exit)) (now (outcome .exit)) ≡ discoverLeft (now (config .entry)) number reading (now (client .entry)) interaction (now (sent .entry)) (now (outcome .entry)) ⌝ }
+    ensures { λ n. ⌜ leaves n (now (client .exit)) (now (sent .exit)) (now (outcome .exit)) ≡ discoverLeft (now (config .entry)) number reading (now (client .entry)) interaction (now (sent .entry)) ⌝ }
 {
     if !codes_client(config, client, sent) {
+        *outcome = 0;
         return 2;
     }
     let c = config_in(config, 0);
@@ -212,9 +220,10 @@ pub extern "C" fn hoyllaqe_request(
     sent: &mut [u32],
     outcome: &mut u32,
 ) -> u32
-    ensures { λ n. ⌜ leaves n (now (client .exit)) (now (sent .exit)) (now (outcome .exit)) ≡ requestLeft (now (config .entry)) number reading (now (client .entry)) wanted (now (sent .entry)) (now (outcome .entry)) ⌝ }
+    ensures { λ n. ⌜ leaves n (now (client .exit)) (now (sent .exit)) (now (outcome .exit)) ≡ requestLeft (now (config .entry)) number reading (now (client .entry)) wanted (now (sent .entry)) ⌝ }
 {
     if !codes_client(config, client, sent) {
+        *outcome = 0;
         return 2;
     }
     let c = config_in(config, 0);
@@ -235,9 +244,10 @@ pub extern "C" fn hoyllaqe_renew(
     sent: &mut [u32],
     outcome: &mut u32,
 ) -> u32
-    ensures { λ n. ⌜ leaves n (now (client .exit)) (now (sent .exit)) (now (outcome .exit)) ≡ renewLeft (now (config .entry)) number reading (now (client .entry)) wanted interaction (now (sent .entry)) (now (outcome .entry)) ⌝ }
+    ensures { λ n. ⌜ leaves n (now (client .exit)) (now (sent .exit)) (now (outcome .exit)) ≡ renewLeft (now (config .entry)) number reading (now (client .entry)) wanted interaction (now (sent .entry)) ⌝ }
 {
     if !codes_client(config, client, sent) {
+        *outcome = 0;
         return 2;
     }
     let c = config_in(config, 0);
@@ -256,9 +266,10 @@ pub extern "C" fn hoyllaqe_pass_time(
     sent: &mut [u32],
     outcome: &mut u32,
 ) -> u32
-    ensures { λ n. ⌜ leaves n (now (client .exit)) (now (sent .exit)) (now (outcome .exit)) ≡ lapseLeft (now (config .entry)) number reading (now (client .entry)) (now (sent .entry)) (now (outcome .entry)) ⌝ }
+    ensures { λ n. ⌜ leaves n (now (client .exit)) (now (sent .exit)) (now (outcome .exit)) ≡ lapseLeft (now (config .entry)) number reading (now (client .entry)) (now (sent .entry)) ⌝ }
 {
     if !codes_client(config, client, sent) {
+        *outcome = 0;
         return 2;
     }
     let c = config_in(config, 0);

@@ -1,4 +1,4 @@
-// Scripts at the edges of the layout. First the verdict on each stored script that an argument names (`tests/layout_data.py`
+// Scripts at the edges of the layout. First the verdict on each stored script that an argument names (`tests/stored_scripts.py`
 // makes them); then the example of document 01, written from its steps and read back; then what the writer answers at its own
 // edges, and the buffer after it.
 use libc::STDOUT_FILENO;

@@ -53,7 +53,7 @@ fn server_barred(c: Config, k: u32, allowed: bool) -> u32
 }
 
 // Refusals 6, 7 and 12 of discover, request and renew of client i; `left` says whether a new κ, if it takes one, is left.
-fn client_barred(c: Config, i: u32, allowed: bool, left: bool) -> u32
+pub fn client_barred(c: Config, i: u32, allowed: bool, left: bool) -> u32
     ensures { λ r. ⌜ r ≡ unlessOk (ltb i (c .clients)) 6 (unlessOk allowed 7 (unlessOk left 12 0)) ⌝ }
 {
     unless(i < c.clients, 6, unless(allowed, 7, unless(left, 12, 0)))

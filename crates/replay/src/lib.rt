@@ -12,11 +12,11 @@ ghost use Prim.Native.Nat.{_≤_};
 ghost use lib.ListN.{length};
 ghost use Rattle.wire.specs.Numbers.{over};
 ghost use Rattle.turns.specs.Turns.{linesFrom, progressFrom, UnderWay};
-ghost use Rattle.replay.specs.Output.{firstLine, beginning, outputLength, buffer};
+ghost use Rattle.replay.specs.Output.{firstLine, beginning, outputLength, buffer, pieceTurns, mostPiece};
 
 // The first line of a script's run. The run has ended where the header is refused.
 pub fn begin(s: &[u8], out: &mut [u8]) -> Piece
-    requires { ⌜ 65536 ≤ length (now out) ⌝ }
+    requires { ⌜ mostPiece ≤ length (now out) ⌝ }
     ensures { λ x. ⌜ (x .progress ≡ beginning (now (s .entry))) × (x .end ≡ length (firstLine (now (s .entry)))) ⌝ }
     ensures { λ _. ⌜ now (out .exit) ≡ over (now (out .entry)) 0 (firstLine (now (s .entry))) ⌝ }
 {
@@ -45,9 +45,9 @@ pub fn begin(s: &[u8], out: &mut [u8]) -> Piece
 
 // The next piece of a run under way: the lines of 2,048 turns, put at the front of the buffer.
 pub fn go_on(s: &[u8], r: Progress, out: &mut [u8]) -> Piece
-    requires { ⌜ UnderWay (now s) r × (r .ended ≡ false) × (65536 ≤ length (now out)) ⌝ }
-    ensures { λ x. ⌜ (x .progress ≡ progressFrom 2048 (r .facade) (now (s .entry)) (r .place) (r .number)) × UnderWay (now (s .entry)) (x .progress) × (x .end ≡ length (linesFrom 2048 (r .facade) (now (s .entry)) (r .place) (r .number))) ⌝ }
-    ensures { λ _. ⌜ now (out .exit) ≡ over (now (out .entry)) 0 (linesFrom 2048 (r .facade) (now (s .entry)) (r .place) (r .number)) ⌝ }
+    requires { ⌜ UnderWay (now s) r × (r .ended ≡ false) × (mostPiece ≤ length (now out)) ⌝ }
+    ensures { λ x. ⌜ (x .progress ≡ progressFrom pieceTurns (r .facade) (now (s .entry)) (r .place) (r .number)) × UnderWay (now (s .entry)) (x .progress) × (x .end ≡ length (linesFrom pieceTurns (r .facade) (now (s .entry)) (r .place) (r .number))) ⌝ }
+    ensures { λ _. ⌜ now (out .exit) ≡ over (now (out .entry)) 0 (linesFrom pieceTurns (r .facade) (now (s .entry)) (r .place) (r .number)) ⌝ }
 {
     put_turns(s, r, out, 0, 2048)
 }

@@ -23,7 +23,10 @@ use Rattle.types.specs.declared.Facade.{Facade}
 use Rattle.types.specs.declared.Step.{Step}
 use Rattle.types.specs.declared.Answer.{Answer}
 use Rattle.rules.specs.Parts.{message, noServer}
-use Rattle.rules.specs.Steps.{fresh, start}
+use Rattle.rules.specs.Conditions.{_and_, counted}
+use Rattle.rules.specs.Server.{afterReturn}
+use Rattle.rules.specs.Client.{isHolding}
+use Rattle.rules.specs.Steps.{fresh, start, heldAmong, heldClients}
 use Rattle.rules.specs.Examples.{answered, pass, fail, return, notice, discover, request, renew, deliver, lose, cleanup, configOf}
 use Rattle.rules.specs.Edges.{_▷_, minus}
 
@@ -328,6 +331,14 @@ clients =
     ++ handles odd (message 0 5 6 (Ack 3 180)) 0 (client 2 (Holding 3 180 6) ∷ []) []
     ++ handles odd (message 0 5 6 (Ack 3 100)) 1 [] []
     ++ handles odd (message 0 5 6 (Ack 2 120)) 1 [] []
+    -- an offer to a client that is idle, offered, waiting or holding, and an ack to one that is idle, asking or offered, each with its κ
+    ++ handles (odd ▷ client 3 Idle) (message 1 6 7 (Offer 2)) 1 [] []
+    ++ handles odd (message 1 4 5 (Offer 2)) 1 [] []
+    ++ handles odd (message 1 3 4 (Offer 2)) 1 [] []
+    ++ handles odd (message 1 5 6 (Offer 3)) 1 [] []
+    ++ handles (odd ▷ client 3 Idle) (message 1 6 7 (Ack 2 150)) 1 [] []
+    ++ handles odd (message 1 6 7 (Ack 2 150)) 1 [] []
+    ++ handles odd (message 1 4 5 (Ack 1 150)) 1 [] []
 
 -- A dead receiver, and messages at other positions: the first, a write, and the last but one, an ack of no open write.
 others : List Row
@@ -360,6 +371,31 @@ answerOf x = answered (x .given) (x .asked)
 effects-hold : map answerOf table ≡ map (λ x. record { refusal = 0; outcome = x .outcome; facade = x .gives }) table
 unfolding answerOf
 effects-hold = refl
+
+-- What a server does by itself on its return: the facade adds only that it is alive, and since when.
+return-holds :
+    afterReturn 101 (numbered 2 false)
+    ≡ record {
+      server = serverOf true 95 101 (replicate 4 true) (replicate 32 false) (replicate 32 (record { state = Free })) (replicate 32 0) ((numbered 2 false) .potlease) (replicate 32 shut);
+      outcome = 0;
+      outbox = record { count = 0; messages = replicate 4 none };
+    }
+unfolding afterReturn
+return-holds = refl
+
+-- How many clients hold: of 4 clients, of 5 (the fifth place holds), of all 32, and without the last.
+holding : List Facade
+holding =
+    odd
+    ∷ (odd ▷ configured (configOf 3 5 4 2 10 50 10))
+    ∷ (odd ▷ configured (configOf 3 32 4 2 10 50 10))
+    ∷ (odd ▷ configured (configOf 3 32 4 2 10 50 10) ▷ client 31 (Waiting 1 0))
+    ∷ (odd ▷ client 2 Idle)
+    ∷ []
+
+held-holds : map heldClients holding ≡ 1 ∷ 2 ∷ 29 ∷ 28 ∷ 0 ∷ []
+unfolding holding _▷_ heldAmong counted isHolding _and_
+held-holds = refl
 
 -- The answer to a configuration: all lower bounds, all upper bounds, and one past each. The facade is the fresh one in any case.
 

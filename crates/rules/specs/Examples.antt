@@ -1,4 +1,5 @@
--- The worked examples of document 01: rows P1 to P12 and the run of the rig. Each but P12 is computed by `step` itself, refusal 2 included.
+-- The worked examples of document 01: rows P1 to P12 and the run of the rig. Each is computed by `step` itself, refusal 2 included, but for
+-- the ranks of P12.
 use mathlib.Core.Path.{_≡_, refl}
 use mathlib.Core.Bool.{Bool, true, false}
 use mathlib.Core.List.{List, [], _∷_, _++_, map}
@@ -19,7 +20,7 @@ use Rattle.types.specs.declared.Step.{Step}
 use Rattle.types.specs.declared.Answer.{Answer}
 use Rattle.rules.specs.Conditions.{_and_, _or_, within, unless, all, lowest, filled}
 use Rattle.rules.specs.Clock.{signed}
-use Rattle.rules.specs.Parts.{noReservation, serverAt, stateAt, leadsAt, reservedAt, lentAt, recordAt, message, inState, noMessage, withLife, withServer, withTime}
+use Rattle.rules.specs.Parts.{noticeAt, believes, noReservation, serverAt, stateAt, leadsAt, reservedAt, lentAt, recordAt, message, inState, noMessage, withLife, withServer, withTime}
 use Rattle.rules.specs.Ranges.{configInRange, interactionInRange, offsetInRange, reservationInRange, writeInRange, addressInRange, serverInRange, noticeInRange, stateInRange, isClient, bodyInRange, messageInRange, inRange}
 use Rattle.rules.specs.Order.{rank, isFirst}
 use Rattle.rules.specs.Messages.{postUnless, toServers, sentBehind, removed}
@@ -179,8 +180,8 @@ data Ask : Type 0 where
   cleanAt : ℕ → ℕ → Ask  -- reading of the reservation, clock: whether it is kept
   ackAt : ℕ → ℕ → Ask  -- end in the ack, clock: held until
   passTo : ℕ → ℕ → Ask  -- held end, clock after a pass: held until
-  deadAt : ℕ → ℕ → Ask  -- alive since, time
-  silentTo : ℕ → ℕ → Ask  -- last notice and present time, time after a pass
+  deadAt : ℕ → ℕ → Ask  -- alive since, time: when the receiver last had a notice, whether it believes the server live
+  silentTo : ℕ → ℕ → Ask  -- last notice, time after a pass that begins 2 later: the time then
   ranks : ℕ → ℕ → Ask  -- servers, address: the ranks of servers 0, 1, 2 (no step)
   leadWhen : Bool → Bool → Bool → Ask  -- which of three servers live: who leads address 1 (several steps)
 
@@ -195,9 +196,10 @@ answer (cleanAt r′ r) =
     reading (λ f. bit (isTaken (reservedAt (serverAt f 0) 0)) ∷ []) (answered (serverRow r (serverOf 0 0 true (Taken 1 r′) 0 0)) (cleanup 0))
 answer (ackAt e r) = reading (λ f. heldUntil (stateAt f 0) ∷ []) (answered (clientRow r (Waiting 1 0) (Ack 0 e)) (deliver 0 0))
 answer (passTo e r) = reading (λ f. heldUntil (stateAt f 0) ∷ []) (answered (clientRow (r - 1) (Holding 0 e 1) (Ack 0 e)) (pass 1 0 0))
-answer (deadAt c t) = reading (λ f. []) (answered (facadeOf t plain (serverOf c 0 false Free 0 0) t Idle [] 0) (notice 0 1 0))
+answer (deadAt c t) =
+    reading (λ f. noticeAt f 0 1 ∷ bit (believes ((serverAt f 0) .believed) 1) ∷ []) (answered (facadeOf t plain (serverOf c 0 false Free 0 0) c Idle [] 0) (notice 0 1 0))
 answer (silentTo t t′) =
-    reading (λ f. []) (answered (facadeOf t plain plain t Idle [] 0) (pass (t′ - t) 0 0))
+    reading (λ f. f .time ∷ []) (answered (facadeOf (t + 2) plain plain t Idle [] 0) (pass (t′ - (t + 2)) 0 0))
 answer (ranks s a) = rank s a 0 ∷ rank s a 1 ∷ rank s a 2 ∷ []
 answer (leadWhen x y z) = leaders 1 (run (threeServers x y z) (notices x y z))
 
@@ -226,10 +228,10 @@ table =
     ∷ row (ackAt 155 155) (0 ∷ 1 ∷ 0 ∷ [])  -- P9
     ∷ row (passTo 155 154) (0 ∷ 0 ∷ 155 ∷ [])  -- P9, in a pass
     ∷ row (passTo 155 155) (0 ∷ 0 ∷ 0 ∷ [])  -- P9, in a pass
-    ∷ row (deadAt 20 24) (0 ∷ 0 ∷ [])  -- P10
-    ∷ row (deadAt 20 25) (11 ∷ 0 ∷ [])  -- P10
-    ∷ row (silentTo 20 25) (0 ∷ 0 ∷ [])  -- P11
-    ∷ row (silentTo 20 26) (10 ∷ 0 ∷ [])  -- P11
+    ∷ row (deadAt 20 24) (0 ∷ 0 ∷ 24 ∷ 0 ∷ [])  -- P10
+    ∷ row (deadAt 20 25) (11 ∷ 0 ∷ 20 ∷ 1 ∷ [])  -- P10
+    ∷ row (silentTo 20 25) (0 ∷ 0 ∷ 25 ∷ [])  -- P11
+    ∷ row (silentTo 20 26) (10 ∷ 0 ∷ 22 ∷ [])  -- P11
     ∷ row (ranks 3 1) (2 ∷ 0 ∷ 1 ∷ [])  -- P12
     ∷ row (leadWhen true true true) (0 ∷ 1 ∷ 0 ∷ [])  -- P12, 1 is first
     ∷ row (leadWhen true false true) (0 ∷ 0 ∷ 1 ∷ [])  -- P12, 2 is next

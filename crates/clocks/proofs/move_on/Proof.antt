@@ -1,8 +1,8 @@
 use Prim.Native.Nat.{_+_}
 use Rattle.arith.proofs.Signs.{sum-fits}
-use mathlib.Core.Path.{_≡_, ap, _∙_}
+use mathlib.Core.Path.{_≡_, ap, ap₂, _∙_}
 use mir.Syntax.{w32}
-use mir.Val.{SFits}
+use mir.Val.{SFits, toZ, ofZ}
 use mir.Facts.{toZ-ofZ}
 use lib.IntN.{ℤ, pos, _+ℤ_}
 use lib.ListN.{getD, set}
@@ -33,10 +33,12 @@ returns : tie.Need-returns
 returns c =
     let s = c .before .before in
     let a = s .args in
-    let h : SFits w32 (getD (a .t1 .offsets) (a .p) (pos 0)) = search needs in
-    let sum : c .shifted .result ≡ getD (a .t1 .offsets) (a .p) (pos 0) +ℤ a .e = c .shifted .ensures ∙ rw (toZ-ofZ h, toZ-ofZ (s .fits .e)) in
-    let fit : SFits w32 (c .shifted .result) = rw sum (sum-fits (getD (a .t1 .offsets) (a .p) (pos 0)) (a .e) (s .pre .2) (s .pre .3)) in
-    ap (λ (o : ℤ). timeIn (a .t1) (a .t1 .time + a .d) (set (a .t1 .offsets) (a .p) o)) (toZ-ofZ fit ∙ sum)
+    let o = getD (a .t1 .offsets) (a .p) (pos 0) in
+    let h : SFits w32 o = search needs in
+    let added : c .shifted .result ≡ toZ w32 (ofZ w32 o) +ℤ toZ w32 (ofZ w32 (a .e)) = c .shifted .ensures in
+    let sum : c .shifted .result ≡ o +ℤ a .e = added ∙ ap₂ _+ℤ_ (toZ-ofZ h) (toZ-ofZ (s .fits .e)) in
+    let fit : SFits w32 (c .shifted .result) = rw sum (sum-fits o (a .e) (s .pre .2) (s .pre .3)) in
+    ap (λ (x : ℤ). timeIn (a .t1) (a .t1 .time + a .d) (set (a .t1 .offsets) (a .p) x)) (toZ-ofZ fit ∙ sum)
 
 pub move-on-spec : {M : Type 1} → statement M
 move-on-spec =

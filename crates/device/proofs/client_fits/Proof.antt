@@ -15,13 +15,10 @@ config-in-range-requires c κs = search needs
 both-requires-2 : tie.Need-both-requires-2
 both-requires-2 c κs = search needs
 
-both-requires-3 : tie.Need-both-requires-3
-both-requires-3 c κs = search needs
-
 returns : tie.Need-returns
 returns c =
-    client-fits-is _ _ _ _ _ _ _ _ _ (c .before .before .before .before .before .state-in-range .ensures) (c .before .before .before .before .both .ensures)
-    (c .before .before .before .config-in-range .ensures) (c .before .both2 .ensures) (c .both3 .ensures)
+    let own = c .before .before in
+    client-fits-is _ _ _ _ _ _ _ (own .before .state-in-range .ensures) (own .both .ensures) (c .before .config-in-range .ensures) (c .both2 .ensures)
 
 pub client-fits-spec : {M : Type 1} → statement M
 client-fits-spec =
@@ -31,5 +28,4 @@ client-fits-spec =
     both-requires
     config-in-range-requires
     both-requires-2
-    both-requires-3
     returns)

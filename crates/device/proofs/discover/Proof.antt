@@ -1,51 +1,70 @@
-use Rattle.device.specs.Device.{deviceDiscovers}
-use Rattle.device.proofs.Laws.{first-holds, both-is, client-told, client-takes, client-refuses}
+use mathlib.Core.Path.{_≡_, sym, _∙_}
+use lib.Dec.{leb}
+use Rattle.rules.specs.Conditions.{_and_, unless}
+use Rattle.rules.specs.Steps.{discover, exists, stateAllows, interactionLeft}
+use Rattle.rules.proofs.Laws.{and-l}
+use Rattle.device.specs.Device.{seen, deviceRefusal, clientFits, deviceDiscovers}
+use Rattle.device.proofs.Laws.{device-is, asked-told, client-takes, client-refuses}
 use borrow.Author.Needs.{needs}
 use Rattle.device.proofs.discover.Statement.{statement}
 use Rattle.device.proofs.discover.Tie as tie
 
+abbrev start : tie.After-first-refusal → tie.Start
+start c = c .before .before .before .before .before
+
+-- the refusal is the definition's
+number : (c : tie.After-first-refusal)
+    → let a = start c .args in c .first-refusal .result ≡ deviceRefusal (clientFits (a .c) (a .r) (a .y .state) and leb 1 (a .q)) (seen (a .c) (a .q) (a .y .state)) (discover (a .i))
+unfolding exists stateAllows interactionLeft
+number c =
+    let f = c .before .before .before in
+    device-is _ _ _ _ _ _ (rw (← f .before .client-fits .ensures) (f .both .ensures))
+    (rw (← c .before .before .is-holding .ensures) (c .before .client-barred .ensures)) (c .first-refusal .ensures)
+
 client-fits-requires : tie.Need-client-fits-requires
 client-fits-requires c κs = search needs
-
-interaction-in-range-requires : tie.Need-interaction-in-range-requires
-interaction-in-range-requires c κs = search needs
 
 both-requires : tie.Need-both-requires
 both-requires c κs = search needs
 
-discover-requires : tie.Need-discover-requires
-discover-requires c κs =
-    client-told _ _ _ _
-    (first-holds _ _
-    (both-is _ _ _ _ _ _ (c .before .both .ensures) (c .before .before .before .client-fits .ensures) (c .before .before .interaction-in-range .ensures) (c .if1 .taken)))
+is-holding-requires : tie.Need-is-holding-requires
+is-holding-requires c κs = search needs
 
-client-took-requires : tie.Need-client-took-requires
-client-took-requires c κs = search needs
+client-barred-requires : tie.Need-client-barred-requires
+client-barred-requires c κs = search needs
 
-returns : tie.Need-returns
-unfolding deviceDiscovers
-returns c =
-    client-takes _ _ _ _ _ (c .client-took .ensures) (c .before .discover .ensures)
-    (both-is _ _ _ _ _ _ (c .before .before .before .both .ensures) (c .before .before .before .before .before .client-fits .ensures) (c .before .before .before .before .interaction-in-range .ensures) (c .before .before .if1 .taken))
+first-refusal-requires : tie.Need-first-refusal-requires
+first-refusal-requires c κs = search needs
 
 client-refused-requires : tie.Need-client-refused-requires
 client-refused-requires c κs = search needs
 
+returns : tie.Need-returns
+unfolding deviceDiscovers
+returns c = client-refuses _ _ (number (c .before .before)) _ _ _ (c .client-refused .ensures) (c .before .if1 .taken)
+
+discover-requires : tie.Need-discover-requires
+unfolding exists
+discover-requires c κs = asked-told _ _ _ _ _ _ _ (λ t. and-l _ _ t) (λ t. t) (sym (number (c .before)) ∙ c .if1 .left)
+
+client-took-requires : tie.Need-client-took-requires
+client-took-requires c κs = search needs
+
 returns-2 : tie.Need-returns-2
 unfolding deviceDiscovers
-returns-2 c =
-    client-refuses _ _ _ _ (c .client-refused .ensures)
-    (both-is _ _ _ _ _ _ (c .before .before .both .ensures) (c .before .before .before .before .client-fits .ensures) (c .before .before .before .interaction-in-range .ensures) (c .before .if1 .left))
+returns-2 c = client-takes _ _ (number (c .before .before .before)) _ _ _ _ (c .client-took .ensures) (c .before .discover .ensures) (c .before .before .if1 .left)
 
 pub discover-spec : {M : Type 1} → statement M
 discover-spec =
     tie.close
     (tie.spec
     client-fits-requires
-    interaction-in-range-requires
     both-requires
+    is-holding-requires
+    client-barred-requires
+    first-refusal-requires
+    client-refused-requires
+    returns
     discover-requires
     client-took-requires
-    returns
-    client-refused-requires
     returns-2)

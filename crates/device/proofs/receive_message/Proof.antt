@@ -1,63 +1,57 @@
-use mathlib.Core.Path.{sym, _∙_}
-use borrow.Author.Tests.{not-true, not-false}
-use Rattle.device.specs.Device.{deviceReceives}
-use Rattle.device.proofs.Laws.{server-configured, receive-told, both-hold, first-fails, second-fails, server-takes, server-refuses}
+use mathlib.Core.Path.{_≡_, sym, _∙_}
+use Rattle.rules.specs.Conditions.{_and_}
+use Rattle.rules.specs.Ranges.{isServer}
+use Rattle.device.specs.Device.{ownRefusal, messageFits, serverFits, deviceReceives}
+use Rattle.device.proofs.Laws.{server-configured, receive-told, server-takes, server-refuses}
 use borrow.Author.Needs.{needs}
 use Rattle.device.proofs.receive_message.Statement.{statement}
 use Rattle.device.proofs.receive_message.Tie as tie
 
+abbrev start : tie.After-own-refusal → tie.Start
+start c = c .before .before .before .before
+
+-- the refusal is the definition's
+number : (c : tie.After-own-refusal)
+    → let a = start c .args in c .own-refusal .result ≡ ownRefusal (serverFits (a .c) (a .r) (a .s) and messageFits (a .c) (a .k) (a .m)) (isServer (a .c) (a .k))
+number c =
+    let m = c .before .before in
+    rw (← m .before .server-fits .ensures, ← m .message-fits .ensures) (c .own-refusal .ensures)
+
 server-fits-requires : tie.Need-server-fits-requires
 server-fits-requires c κs = search needs
+
+message-fits-requires : tie.Need-message-fits-requires
+message-fits-requires c κs = λ h. server-configured _ _ _ (sym (c .server-fits .ensures) ∙ h)
+
+own-refusal-requires : tie.Need-own-refusal-requires
+own-refusal-requires c κs = search needs
 
 server-refused-requires : tie.Need-server-refused-requires
 server-refused-requires c κs = search needs
 
 returns : tie.Need-returns
 unfolding deviceReceives
-returns c =
-    server-refuses _ _ _ _ (c .server-refused .ensures)
-    (first-fails _ _ (sym (c .before .before .server-fits .ensures) ∙ not-true _ (c .before .if1 .taken)))
-
-message-fits-requires : tie.Need-message-fits-requires
-message-fits-requires c κs = server-configured _ _ _ _ (sym (c .before .server-fits .ensures) ∙ not-false _ (c .if1 .left))
-
-server-refused-requires-2 : tie.Need-server-refused-requires-2
-server-refused-requires-2 c κs = search needs
-
-returns-2 : tie.Need-returns-2
-unfolding deviceReceives
-returns-2 c =
-    let first = c .before .before .before in
-    server-refuses _ _ _ _ (c .server-refused2 .ensures)
-    (second-fails _ _ (sym (first .before .server-fits .ensures) ∙ not-false _ (first .if1 .left))
-    (sym (c .before .before .message-fits .ensures) ∙ not-true _ (c .before .if2 .taken)))
+returns c = server-refuses _ _ (number (c .before .before)) _ _ _ (c .server-refused .ensures) (c .before .if1 .taken)
 
 receive-requires : tie.Need-receive-requires
-receive-requires c κs =
-    let first = c .before .before in
-    receive-told _ _ _ _ _ (sym (first .before .server-fits .ensures) ∙ not-false _ (first .if1 .left))
-    (sym (c .before .message-fits .ensures) ∙ not-false _ (c .if2 .left))
+receive-requires c κs = receive-told _ _ _ _ _ (sym (number (c .before)) ∙ c .if1 .left)
 
 server-took-requires : tie.Need-server-took-requires
 server-took-requires c κs = search needs
 
-returns-3 : tie.Need-returns-3
+returns-2 : tie.Need-returns-2
 unfolding deviceReceives
-returns-3 c =
-    server-takes _ _ _ _ _ (c .server-took .ensures) (c .before .receive .ensures)
-    (both-hold _ _ (sym (c .before .before .before .before .before .server-fits .ensures) ∙ not-false _ (c .before .before .before .before .if1 .left))
-    (sym (c .before .before .before .message-fits .ensures) ∙ not-false _ (c .before .before .if2 .left)))
+returns-2 c = server-takes _ _ (number (c .before .before .before)) _ _ _ _ (c .server-took .ensures) (c .before .receive .ensures) (c .before .before .if1 .left)
 
 pub receive-message-spec : {M : Type 1} → statement M
 receive-message-spec =
     tie.close
     (tie.spec
     server-fits-requires
+    message-fits-requires
+    own-refusal-requires
     server-refused-requires
     returns
-    message-fits-requires
-    server-refused-requires-2
-    returns-2
     receive-requires
     server-took-requires
-    returns-3)
+    returns-2)

@@ -1,40 +1,44 @@
-use native.Mathlib.Omega.{arith}
-use mathlib.Core.Path.{sym, _∙_}
-use borrow.Author.Tests.{not-true, not-false}
-use Rattle.device.specs.Device.{deviceHears}
-use Rattle.device.proofs.Laws.{client-told, both-hold, first-fails, second-fails, client-takes, client-refuses}
+use mathlib.Core.Path.{_≡_, sym, _∙_}
+use lib.Dec.{ltb}
+use Rattle.rules.specs.Conditions.{_and_}
+use Rattle.rules.specs.Parts.{clientParty}
+use Rattle.device.specs.Device.{ownRefusal, messageFits, clientFits, deviceHears}
+use Rattle.device.proofs.Laws.{client-configured, client-takes, client-refuses}
 use borrow.Author.Needs.{needs}
 use Rattle.device.proofs.receive_reply.Statement.{statement}
 use Rattle.device.proofs.receive_reply.Tie as tie
 
+abbrev start : tie.After-own-refusal → tie.Start
+start c = c .before .before .before .before .before
+
+-- the refusal is the definition's
+number : (c : tie.After-own-refusal)
+    → let a = start c .args in c .own-refusal .result ≡ ownRefusal (clientFits (a .c) (a .r) (a .y .state) and messageFits (a .c) (clientParty (a .c) (a .i)) (a .m)) (ltb (a .i) (a .c .clients))
+number c =
+    let m = c .before .before in
+    rw (← m .before .client-fits .ensures, ← m .message-fits .ensures) (c .own-refusal .ensures)
+
+cast-party : tie.Need-cast-party
+cast-party c = search needs
+
+add-party : tie.Need-add-party
+add-party c = search needs
+
 client-fits-requires : tie.Need-client-fits-requires
 client-fits-requires c κs = search needs
+
+message-fits-requires : tie.Need-message-fits-requires
+message-fits-requires c κs = λ h. client-configured _ _ _ (sym (c .client-fits .ensures) ∙ h)
+
+own-refusal-requires : tie.Need-own-refusal-requires
+own-refusal-requires c κs = search needs
 
 client-refused-requires : tie.Need-client-refused-requires
 client-refused-requires c κs = search needs
 
 returns : tie.Need-returns
 unfolding deviceHears
-returns c =
-    client-refuses _ _ _ _ (c .client-refused .ensures)
-    (first-fails _ _ (sym (c .before .before .client-fits .ensures) ∙ not-true _ (c .before .if1 .taken)))
-
-add-message-fits : tie.Need-add-message-fits
-add-message-fits c = omega (arith, client-told _ _ _ _ (sym (c .before .before .client-fits .ensures) ∙ not-false _ (c .before .if1 .left)))
-
-message-fits-requires : tie.Need-message-fits-requires
-message-fits-requires c κs = (client-told _ _ _ _ (sym (c .before .before .client-fits .ensures) ∙ not-false _ (c .before .if1 .left))) .0
-
-client-refused-requires-2 : tie.Need-client-refused-requires-2
-client-refused-requires-2 c κs = search needs
-
-returns-2 : tie.Need-returns-2
-unfolding deviceHears
-returns-2 c =
-    let first = c .before .before .before .before in
-    client-refuses _ _ _ _ (c .client-refused2 .ensures)
-    (second-fails _ _ (sym (first .before .client-fits .ensures) ∙ not-false _ (first .if1 .left))
-    (sym (c .before .before .message-fits .ensures) ∙ not-true _ (c .before .if2 .taken)))
+returns c = client-refuses _ _ (number (c .before .before)) _ _ _ (c .client-refused .ensures) (c .before .if1 .taken)
 
 receive-requires : tie.Need-receive-requires
 receive-requires c κs = search needs
@@ -42,25 +46,21 @@ receive-requires c κs = search needs
 client-took-requires : tie.Need-client-took-requires
 client-took-requires c κs = search needs
 
-returns-3 : tie.Need-returns-3
+returns-2 : tie.Need-returns-2
 unfolding deviceHears
-returns-3 c =
-    let second = c .before .before in let first = second .before .before .before in
-    client-takes _ _ _ _ _ (c .client-took .ensures) (c .before .receive .ensures)
-    (both-hold _ _ (sym (first .before .client-fits .ensures) ∙ not-false _ (first .if1 .left))
-    (sym (second .before .message-fits .ensures) ∙ not-false _ (second .if2 .left)))
+returns-2 c = client-takes _ _ (number (c .before .before .before)) _ _ _ _ (c .client-took .ensures) (c .before .receive .ensures) (c .before .before .if1 .left)
 
 pub receive-reply-spec : {M : Type 1} → statement M
 receive-reply-spec =
     tie.close
     (tie.spec
+    cast-party
+    add-party
     client-fits-requires
+    message-fits-requires
+    own-refusal-requires
     client-refused-requires
     returns
-    add-message-fits
-    message-fits-requires
-    client-refused-requires-2
-    returns-2
     receive-requires
     client-took-requires
-    returns-3)
+    returns-2)

@@ -1,55 +1,70 @@
-use Rattle.device.specs.Device.{deviceRenews}
-use Rattle.device.proofs.Laws.{then-is, first-holds, both-is, client-told, client-takes, client-refuses}
+use mathlib.Core.Path.{_≡_, sym, _∙_}
+use lib.Dec.{leb}
+use Rattle.rules.specs.Conditions.{_and_, unless}
+use Rattle.rules.specs.Steps.{renew, exists, stateAllows, interactionLeft}
+use Rattle.rules.proofs.Laws.{and-l}
+use Rattle.device.specs.Device.{seen, deviceRefusal, clientFits, deviceRenews}
+use Rattle.device.proofs.Laws.{device-is, asked-told, client-takes, client-refuses}
 use borrow.Author.Needs.{needs}
 use Rattle.device.proofs.renew.Statement.{statement}
 use Rattle.device.proofs.renew.Tie as tie
 
-interaction-in-range-requires : tie.Need-interaction-in-range-requires
-interaction-in-range-requires c κs = search needs
+abbrev start : tie.After-first-refusal → tie.Start
+start c = c .before .before .before .before .before
 
-both-requires : tie.Need-both-requires
-both-requires c κs = search needs
+-- the refusal is the definition's
+number : (c : tie.After-first-refusal)
+    → let a = start c .args in c .first-refusal .result ≡ deviceRefusal (clientFits (a .c) (a .r) (a .y .state) and leb 1 (a .q)) (seen (a .c) (a .q) (a .y .state)) (renew (a .i) (a .t))
+unfolding exists stateAllows interactionLeft
+number c =
+    let f = c .before .before .before in
+    device-is _ _ _ _ _ _ (rw (← f .before .client-fits .ensures) (f .both .ensures))
+    (rw (← c .before .before .is-holding .ensures) (c .before .client-barred .ensures)) (c .first-refusal .ensures)
 
 client-fits-requires : tie.Need-client-fits-requires
 client-fits-requires c κs = search needs
 
-both-requires-2 : tie.Need-both-requires-2
-both-requires-2 c κs = search needs
+both-requires : tie.Need-both-requires
+both-requires c κs = search needs
 
-renew-requires : tie.Need-renew-requires
-renew-requires c κs =
-    client-told _ _ _ _
-    (first-holds _ _
-    (both-is _ _ _ _ _ _ (c .before .both2 .ensures) (c .before .before .client-fits .ensures) (then-is _ _ _ _ (c .before .before .before .before .interaction-in-range .ensures) (c .before .before .before .both .ensures)) (c .if1 .taken)))
+is-holding-requires : tie.Need-is-holding-requires
+is-holding-requires c κs = search needs
 
-client-took-requires : tie.Need-client-took-requires
-client-took-requires c κs = search needs
+client-barred-requires : tie.Need-client-barred-requires
+client-barred-requires c κs = search needs
 
-returns : tie.Need-returns
-unfolding deviceRenews
-returns c =
-    client-takes _ _ _ _ _ (c .client-took .ensures) (c .before .renew .ensures)
-    (both-is _ _ _ _ _ _ (c .before .before .before .both2 .ensures) (c .before .before .before .before .client-fits .ensures) (then-is _ _ _ _ (c .before .before .before .before .before .before .interaction-in-range .ensures) (c .before .before .before .before .before .both .ensures)) (c .before .before .if1 .taken))
+first-refusal-requires : tie.Need-first-refusal-requires
+first-refusal-requires c κs = search needs
 
 client-refused-requires : tie.Need-client-refused-requires
 client-refused-requires c κs = search needs
 
+returns : tie.Need-returns
+unfolding deviceRenews
+returns c = client-refuses _ _ (number (c .before .before)) _ _ _ (c .client-refused .ensures) (c .before .if1 .taken)
+
+renew-requires : tie.Need-renew-requires
+unfolding exists
+renew-requires c κs = asked-told _ _ _ _ _ _ _ (λ t. and-l _ _ t) (λ t. t) (sym (number (c .before)) ∙ c .if1 .left)
+
+client-took-requires : tie.Need-client-took-requires
+client-took-requires c κs = search needs
+
 returns-2 : tie.Need-returns-2
 unfolding deviceRenews
-returns-2 c =
-    client-refuses _ _ _ _ (c .client-refused .ensures)
-    (both-is _ _ _ _ _ _ (c .before .before .both2 .ensures) (c .before .before .before .client-fits .ensures) (then-is _ _ _ _ (c .before .before .before .before .before .interaction-in-range .ensures) (c .before .before .before .before .both .ensures)) (c .before .if1 .left))
+returns-2 c = client-takes _ _ (number (c .before .before .before)) _ _ _ _ (c .client-took .ensures) (c .before .renew .ensures) (c .before .before .if1 .left)
 
 pub renew-spec : {M : Type 1} → statement M
 renew-spec =
     tie.close
     (tie.spec
-    interaction-in-range-requires
-    both-requires
     client-fits-requires
-    both-requires-2
+    both-requires
+    is-holding-requires
+    client-barred-requires
+    first-refusal-requires
+    client-refused-requires
+    returns
     renew-requires
     client-took-requires
-    returns
-    client-refused-requires
     returns-2)

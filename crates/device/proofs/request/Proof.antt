@@ -1,48 +1,63 @@
-use mathlib.Core.Path.{refl}
-use Rattle.device.specs.Device.{deviceRequests}
-use Rattle.device.proofs.Laws.{first-holds, both-is, client-told, client-takes, client-refuses}
+use mathlib.Core.Path.{_≡_, sym, _∙_}
+use Rattle.rules.specs.Steps.{request, exists, stateAllows, interactionLeft}
+use Rattle.device.specs.Device.{seen, deviceRefusal, clientFits, deviceRequests}
+use Rattle.device.proofs.Laws.{device-is, asked-told, client-takes, client-refuses}
 use borrow.Author.Needs.{needs}
 use Rattle.device.proofs.request.Statement.{statement}
 use Rattle.device.proofs.request.Tie as tie
 
+abbrev start : tie.After-first-refusal → tie.Start
+start c = c .before .before .before .before
+
+-- the refusal is the definition's
+number : (c : tie.After-first-refusal)
+    → let a = start c .args in c .first-refusal .result ≡ deviceRefusal (clientFits (a .c) (a .r) (a .y .state)) (seen (a .c) 0 (a .y .state)) (request (a .i) (a .t))
+unfolding exists stateAllows interactionLeft
+number c =
+    let below = c .before .before in
+    device-is _ _ _ _ _ _ (c .before .client-fits .ensures)
+    (rw (← below .before .is-offered .ensures) (below .client-barred .ensures)) (c .first-refusal .ensures)
+
+is-offered-requires : tie.Need-is-offered-requires
+is-offered-requires c κs = search needs
+
+client-barred-requires : tie.Need-client-barred-requires
+client-barred-requires c κs = search needs
+
 client-fits-requires : tie.Need-client-fits-requires
 client-fits-requires c κs = search needs
 
-both-requires : tie.Need-both-requires
-both-requires c κs = search needs
-
-request-requires : tie.Need-request-requires
-request-requires c κs =
-    client-told _ _ _ _
-    (first-holds _ _
-    (both-is _ _ _ _ _ _ (c .before .both .ensures) (c .before .before .client-fits .ensures) refl (c .if1 .taken)))
-
-client-took-requires : tie.Need-client-took-requires
-client-took-requires c κs = search needs
-
-returns : tie.Need-returns
-unfolding deviceRequests
-returns c =
-    client-takes _ _ _ _ _ (c .client-took .ensures) (c .before .request .ensures)
-    (both-is _ _ _ _ _ _ (c .before .before .before .both .ensures) (c .before .before .before .before .client-fits .ensures) refl (c .before .before .if1 .taken))
+first-refusal-requires : tie.Need-first-refusal-requires
+first-refusal-requires c κs = search needs
 
 client-refused-requires : tie.Need-client-refused-requires
 client-refused-requires c κs = search needs
 
+returns : tie.Need-returns
+unfolding deviceRequests
+returns c = client-refuses _ _ (number (c .before .before)) _ _ _ (c .client-refused .ensures) (c .before .if1 .taken)
+
+request-requires : tie.Need-request-requires
+unfolding exists
+request-requires c κs = asked-told _ _ _ _ _ _ _ (λ t. t) (λ t. t) (sym (number (c .before)) ∙ c .if1 .left)
+
+client-took-requires : tie.Need-client-took-requires
+client-took-requires c κs = search needs
+
 returns-2 : tie.Need-returns-2
 unfolding deviceRequests
-returns-2 c =
-    client-refuses _ _ _ _ (c .client-refused .ensures)
-    (both-is _ _ _ _ _ _ (c .before .before .both .ensures) (c .before .before .before .client-fits .ensures) refl (c .before .if1 .left))
+returns-2 c = client-takes _ _ (number (c .before .before .before)) _ _ _ _ (c .client-took .ensures) (c .before .request .ensures) (c .before .before .if1 .left)
 
 pub request-spec : {M : Type 1} → statement M
 request-spec =
     tie.close
     (tie.spec
+    is-offered-requires
+    client-barred-requires
     client-fits-requires
-    both-requires
+    first-refusal-requires
+    client-refused-requires
+    returns
     request-requires
     client-took-requires
-    returns
-    client-refused-requires
     returns-2)

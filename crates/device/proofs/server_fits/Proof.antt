@@ -16,13 +16,10 @@ server-in-range-requires c κs = (told _ (sym (c .before .config-in-range .ensur
 both-requires : tie.Need-both-requires
 both-requires c κs = search needs
 
-both-requires-2 : tie.Need-both-requires-2
-both-requires-2 c κs = search needs
-
 returns : tie.Need-returns
 returns c =
-    server-fits-is _ _ _ _ _ _ _ (sym (c .before .before .before .before .before .config-in-range .ensures) ∙ c .before .before .before .before .if1 .taken)
-    (c .before .before .before .server-in-range .ensures) (c .before .both .ensures) (c .both2 .ensures)
+    let first = c .before .before in
+    server-fits-is _ _ _ _ _ (sym (first .before .config-in-range .ensures) ∙ first .if1 .taken) (c .before .server-in-range .ensures) (c .both .ensures)
 
 returns-2 : tie.Need-returns-2
 unfolding serverFits _and_
@@ -31,10 +28,4 @@ returns-2 c = rw (sym (c .before .config-in-range .ensures) ∙ c .if1 .left)
 pub server-fits-spec : {M : Type 1} → statement M
 server-fits-spec =
     tie.close
-    (tie.spec
-    config-in-range-requires
-    server-in-range-requires
-    both-requires
-    both-requires-2
-    returns
-    returns-2)
+    (tie.spec config-in-range-requires server-in-range-requires both-requires returns returns-2)

@@ -1,50 +1,69 @@
-use Rattle.device.specs.Device.{deviceNoticed}
-use Rattle.device.proofs.Laws.{both-is, notice-told, server-takes, server-refuses}
+use mathlib.Core.Path.{_≡_, sym, _∙_}
+use Rattle.types.specs.declared.State.the-variants.{Idle}
+use Rattle.rules.specs.Conditions.{unless}
+use Rattle.rules.specs.Steps.{notice, exists, stateAllows, interactionLeft}
+use Rattle.device.specs.Device.{seen, deviceRefusal, serverFits, deviceNoticed}
+use Rattle.device.proofs.Laws.{device-is, notice-told, server-takes, server-refuses}
 use borrow.Author.Needs.{needs}
 use Rattle.device.proofs.take_notice.Statement.{statement}
 use Rattle.device.proofs.take_notice.Tie as tie
 
-server-fits-requires : tie.Need-server-fits-requires
-server-fits-requires c κs = search needs
+abbrev start : tie.After-first-refusal → tie.Start
+start c = c .before .before .before .before .before .before .before
 
-notice-fits-requires : tie.Need-notice-fits-requires
-notice-fits-requires c κs = search needs
+-- the refusal is the definition's
+number : (c : tie.After-first-refusal)
+    → let a = start c .args in c .first-refusal .result ≡ deviceRefusal (serverFits (a .c) (a .r) (a .s)) (seen (a .c) 0 Idle) (notice (a .k) (a .about) (a .says))
+unfolding exists stateAllows interactionLeft unless
+number c =
+    let s = c .before .before in
+    let n = s .before in
+    device-is _ _ _ _ _ _ (s .server-fits .ensures)
+    (rw (← n .before .both .ensures, ← n .both2 .ensures) (c .before .unless .ensures)) (c .first-refusal .ensures)
 
 both-requires : tie.Need-both-requires
 both-requires c κs = search needs
 
-notice-requires : tie.Need-notice-requires
-notice-requires c κs =
-    notice-told _ _ _ _ _ _
-    (both-is _ _ _ _ _ _ (c .before .both .ensures) (c .before .before .before .server-fits .ensures) (c .before .before .notice-fits .ensures) (c .if1 .taken))
+both-requires-2 : tie.Need-both-requires-2
+both-requires-2 c κs = search needs
 
-server-took-requires : tie.Need-server-took-requires
-server-took-requires c κs = search needs
+server-fits-requires : tie.Need-server-fits-requires
+server-fits-requires c κs = search needs
 
-returns : tie.Need-returns
-unfolding deviceNoticed
-returns c =
-    server-takes _ _ _ _ _ (c .server-took .ensures) (c .before .notice .ensures)
-    (both-is _ _ _ _ _ _ (c .before .before .before .both .ensures) (c .before .before .before .before .before .server-fits .ensures) (c .before .before .before .before .notice-fits .ensures) (c .before .before .if1 .taken))
+unless-requires : tie.Need-unless-requires
+unless-requires c κs = search needs
+
+first-refusal-requires : tie.Need-first-refusal-requires
+first-refusal-requires c κs = search needs
 
 server-refused-requires : tie.Need-server-refused-requires
 server-refused-requires c κs = search needs
 
+returns : tie.Need-returns
+unfolding deviceNoticed
+returns c = server-refuses _ _ (number (c .before .before)) _ _ _ (c .server-refused .ensures) (c .before .if1 .taken)
+
+notice-requires : tie.Need-notice-requires
+notice-requires c κs = notice-told _ _ _ _ _ _ (sym (number (c .before)) ∙ c .if1 .left)
+
+server-took-requires : tie.Need-server-took-requires
+server-took-requires c κs = search needs
+
 returns-2 : tie.Need-returns-2
 unfolding deviceNoticed
-returns-2 c =
-    server-refuses _ _ _ _ (c .server-refused .ensures)
-    (both-is _ _ _ _ _ _ (c .before .before .both .ensures) (c .before .before .before .before .server-fits .ensures) (c .before .before .before .notice-fits .ensures) (c .before .if1 .left))
+returns-2 c = server-takes _ _ (number (c .before .before .before)) _ _ _ _ (c .server-took .ensures) (c .before .notice .ensures) (c .before .before .if1 .left)
 
 pub take-notice-spec : {M : Type 1} → statement M
 take-notice-spec =
     tie.close
     (tie.spec
-    server-fits-requires
-    notice-fits-requires
     both-requires
+    both-requires-2
+    server-fits-requires
+    unless-requires
+    first-refusal-requires
+    server-refused-requires
+    returns
     notice-requires
     server-took-requires
-    returns
-    server-refused-requires
     returns-2)

@@ -17,7 +17,7 @@ same-length : tie.Need-same-length
 same-length c = search needs
 
 returns : tie.Need-returns
-returns c = codes-nothing _ _ _ (sym (c .before .is-facade .ensures) ∙ not-true _ (c .if1 .taken))
+returns c = codes-nothing _ _ (sym (c .before .is-facade .ensures) ∙ not-true _ (c .if1 .taken))
 
 facade-in-requires : tie.Need-facade-in-requires
 facade-in-requires c κs =
@@ -38,7 +38,7 @@ returns-2 c =
     let coded = sym (d .before .is-facade .ensures) ∙ not-false _ (d .if1 .left) in
     let s : Step = record { kind = a .kind; first = a .first; second = a .second; third = a .third } in
     let e = x .step .ensures ∙ ap (λ (f : Facade). step f s) (x .before .facade-in .ensures) in
-    step-refused (now (a .facade)) s (now (a .outcome)) coded e (c .if2 .taken)
+    step-refused (now (a .facade)) s coded e (c .if2 .taken)
 
 put-facade-requires : tie.Need-put-facade-requires
 put-facade-requires c κs =
@@ -59,7 +59,7 @@ returns-3 c =
     let s : Step = record { kind = a .kind; first = a .first; second = a .second; third = a .third } in
     let e = x .step .ensures ∙ ap (λ (f : Facade). step f s) (x .before .facade-in .ensures) in
     let put = p .put-facade .ensures in
-    step-put (now (a .facade)) s (now (a .outcome)) coded e (p .before .before .before .if2 .left) (put .0) (put .1)
+    step-put (now (a .facade)) s coded e (p .before .before .before .if2 .left) (put .0) (put .1)
 
 pub hoyllaqe-step-spec : {M : Type 1} → statement M
 hoyllaqe-step-spec =

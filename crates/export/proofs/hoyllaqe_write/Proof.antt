@@ -9,10 +9,10 @@ use Rattle.export.proofs.hoyllaqe_write.Statement.{statement}
 use Rattle.export.proofs.hoyllaqe_write.Tie as tie
 
 returns : tie.Need-returns
-returns c = no-config-written _ _ _ _ (c .if1 .taken)
+returns c = no-config-written _ _ _ (c .if1 .taken)
 
 returns-2 : tie.Need-returns-2
-returns-2 c = no-steps-written _ _ _ _ (c .before .if1 .left) (c .if2 .taken)
+returns-2 c = no-steps-written _ _ _ (c .before .if1 .left) (c .if2 .taken)
 
 config-in-requires : tie.Need-config-in-requires
 config-in-requires c κs = search needs
@@ -32,7 +32,7 @@ returns-3 c =
     let of = i .config-in .ensures in
     let e = w .write .ensures .0 ∙ ap (λ (x : Config). written x (stepsIn (now (a .steps))) (length (now (a .script)))) of in
     let p = w .write .ensures .1 ∙ ap (λ (x : Config). buffer x (stepsIn (now (a .steps))) (now (a .script))) of in
-    write-refused (now (a .config)) (now (a .steps)) (now (a .script)) (now (a .size)) (d .before .if1 .left) (d .if2 .left) e p (c .if3 .taken)
+    write-refused (now (a .config)) (now (a .steps)) (now (a .script)) (d .before .if1 .left) (d .if2 .left) e p (c .if3 .taken)
 
 same-length-2 : tie.Need-same-length-2
 same-length-2 c = search needs
@@ -46,7 +46,7 @@ returns-4 c =
     let of = i .config-in .ensures in
     let e = w .write .ensures .0 ∙ ap (λ (x : Config). written x (stepsIn (now (a .steps))) (length (now (a .script)))) of in
     let p = w .write .ensures .1 ∙ ap (λ (x : Config). buffer x (stepsIn (now (a .steps))) (now (a .script))) of in
-    write-put (now (a .config)) (now (a .steps)) (now (a .script)) (now (a .size)) (d .before .if1 .left) (d .if2 .left) e p (c .if3 .left)
+    write-put (now (a .config)) (now (a .steps)) (now (a .script)) (d .before .if1 .left) (d .if2 .left) e p (c .if3 .left)
 
 pub hoyllaqe-write-spec : {M : Type 1} → statement M
 hoyllaqe-write-spec =

@@ -46,7 +46,7 @@ returns : tie.Need-returns
 unfolding messageLeft
 returns c =
     let t = c .before in
-    codes-nothing _ _ _ _ _ _ _ _
+    codes-nothing _ _ _ _ _ _ _
     (both-is _ _ _ _ _ _ (t .both .ensures) (t .before .before .codes-server .ensures) (t .before .is-message .ensures) (not-true _ (c .if1 .taken)))
 
 config-in-requires : tie.Need-config-in-requires
@@ -80,7 +80,7 @@ returns-2 c =
     let m = x .before in
     let g = m .before .before .before in
     let a = start (g .before) .args in
-    replied (λ (b : Bool) (z : ServerReply). serverLeft b z (now (a .server)) (now (a .sent)) (now (a .outcome))) _ _ (told (g .before))
+    replied (λ (b : Bool) (z : ServerReply). serverLeft b z (now (a .server)) (now (a .sent))) _ _ (told (g .before))
     (reads-message (λ (f : Config) (s : Server) (v : Message). deviceReceives f (a .number) (a .reading) s v)
     (g .config-in .ensures) (m .before .server-in .ensures) (m .message-in .ensures) (x .receive-message .ensures))
     (p .put-server-reply .ensures)

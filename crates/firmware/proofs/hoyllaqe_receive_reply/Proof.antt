@@ -46,7 +46,7 @@ returns : tie.Need-returns
 unfolding replyLeft
 returns c =
     let t = c .before in
-    codes-nothing _ _ _ _ _ _ _ _
+    codes-nothing _ _ _ _ _ _ _
     (both-is _ _ _ _ _ _ (t .both .ensures) (t .before .before .codes-client .ensures) (t .before .is-message .ensures) (not-true _ (c .if1 .taken)))
 
 config-in-requires : tie.Need-config-in-requires
@@ -80,7 +80,7 @@ returns-2 c =
     let m = x .before in
     let g = m .before .before .before in
     let a = start (g .before) .args in
-    replied (λ (b : Bool) (z : ClientReply). clientLeft b z (now (a .client)) (now (a .sent)) (now (a .outcome))) _ _ (told (g .before))
+    replied (λ (b : Bool) (z : ClientReply). clientLeft b z (now (a .client)) (now (a .sent))) _ _ (told (g .before))
     (reads-message (λ (f : Config) (y : Client) (v : Message). deviceHears f (a .number) (a .reading) y v)
     (g .config-in .ensures) (m .before .client-in .ensures) (m .message-in .ensures) (x .receive-reply .ensures))
     (p .put-client-reply .ensures)

@@ -31,7 +31,7 @@ same-length-2 c = search needs
 
 returns : tie.Need-returns
 unfolding requestLeft
-returns c = codes-nothing _ _ _ _ _ _ _ _ (sym (c .before .codes-client .ensures) ∙ not-true _ (c .if1 .taken))
+returns c = codes-nothing _ _ _ _ _ _ _ (sym (c .before .codes-client .ensures) ∙ not-true _ (c .if1 .taken))
 
 config-in-requires : tie.Need-config-in-requires
 config-in-requires c κs = omega (arith, client-lengths _ _ _ (told c) .0)
@@ -60,7 +60,7 @@ returns-2 c =
     let x = p .before .before .before .before in
     let g = x .before .before .before in
     let a = start (g .before) .args in
-    replied (λ (b : Bool) (z : ClientReply). clientLeft b z (now (a .client)) (now (a .sent)) (now (a .outcome))) _ _ (told (g .before))
+    replied (λ (b : Bool) (z : ClientReply). clientLeft b z (now (a .client)) (now (a .sent))) _ _ (told (g .before))
     (reads (λ (f : Config) (y : Client). deviceRequests f (a .number) (a .reading) y (a .wanted))
     (g .config-in .ensures) (x .before .client-in .ensures) (x .request .ensures))
     (p .put-client-reply .ensures)

@@ -7,7 +7,7 @@ use Rattle.firmware.proofs.put_client_reply.Statement.{statement}
 use Rattle.firmware.proofs.put_client_reply.Tie as tie
 
 returns : tie.Need-returns
-returns c = refused _ _ _ _ _ _ _ (c .if1 .taken)
+returns c = refused _ _ _ _ _ _ (c .if1 .taken)
 
 put-client-requires : tie.Need-put-client-requires
 put-client-requires c κs = search needs
@@ -31,7 +31,7 @@ returns-2 c =
     let x = a .z .answer in
     let client = p .put-client .ensures in
     let sent = q .put-outbox .ensures in
-    put (a .z .refusal) (clientNumbers (x .client)) (x .outbox) (x .outcome) (now (a .client)) (now (a .sent)) (now (a .outcome))
+    put (a .z .refusal) (clientNumbers (x .client)) (x .outbox) (x .outcome) (now (a .client)) (now (a .sent))
     4 (d .if1 .left) (s .pre .0) (client-back .width (x .client) tt) (s .pre .1) (sent .0) client (sent .1)
 
 pub put-client-reply-spec : {M : Type 1} → statement M

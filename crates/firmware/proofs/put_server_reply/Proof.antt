@@ -7,7 +7,7 @@ use Rattle.firmware.proofs.put_server_reply.Statement.{statement}
 use Rattle.firmware.proofs.put_server_reply.Tie as tie
 
 returns : tie.Need-returns
-returns c = refused _ _ _ _ _ _ _ (c .if1 .taken)
+returns c = refused _ _ _ _ _ _ (c .if1 .taken)
 
 put-server-requires : tie.Need-put-server-requires
 put-server-requires c κs = search needs
@@ -31,7 +31,7 @@ returns-2 c =
     let x = a .x .answer in
     let server = p .put-server .ensures in
     let sent = q .put-outbox .ensures in
-    put (a .x .refusal) (serverNumbers (x .server)) (x .outbox) (x .outcome) (now (a .server)) (now (a .sent)) (now (a .outcome))
+    put (a .x .refusal) (serverNumbers (x .server)) (x .outbox) (x .outcome) (now (a .server)) (now (a .sent))
     423 (d .if1 .left) (s .pre .0) (server-width (x .server) (server .0)) (s .pre .1) (sent .0) (server .1) (sent .1)
 
 pub put-server-reply-spec : {M : Type 1} → statement M

@@ -1,4 +1,9 @@
+use mathlib.Core.Path.{_≡_}
+use Prim.Native.Nat.{_+_}
+use lib.Dec.{leb}
 use borrow.Author.Needs.{needs}
+use Rattle.rules.specs.Conditions.{_or_}
+use Rattle.rules.specs.Server.{leadDelay}
 use Rattle.leading.proofs.leads_after.Statement.{statement}
 use Rattle.leading.proofs.leads_after.Tie as tie
 
@@ -27,7 +32,10 @@ both-requires : tie.Need-both-requires
 both-requires c κs = search needs
 
 returns : tie.Need-returns
-returns c = rw (← c .before .before .before .before .is-first .ensures, ← c .before .either .ensures) (c .both .ensures)
+returns c =
+    let a = c .before .before .before .before .before .args in
+    let due : c .before .either .result ≡ (a .before or leb (a .returned + leadDelay (a .c)) (a .r)) = c .before .either .ensures in
+    rw (← c .before .before .before .before .is-first .ensures, ← due) (c .both .ensures)
 
 pub leads-after-spec : {M : Type 1} → statement M
 leads-after-spec =

@@ -1,5 +1,7 @@
-use mathlib.Core.Path.{sym, _∙_}
+use mathlib.Core.Path.{_≡_, sym, _∙_}
+use mathlib.Core.Bool.{true, not}
 use borrow.Author.Needs.{needs}
+use Rattle.rules.specs.Conditions.{_and_}
 use Rattle.leading.proofs.record_after.Statement.{statement}
 use Rattle.leading.proofs.record_after.Tie as tie
 
@@ -19,7 +21,10 @@ larger-requires : tie.Need-larger-requires
 larger-requires c κs = search needs
 
 returns : tie.Need-returns
-returns c = rw (sym (c .before .before .before .before .both .ensures) ∙ c .before .before .before .if1 .taken) (c .larger .ensures)
+returns c =
+    let a = c .before .before .before .before .before .args in
+    let begins : (a .now and not (a .before)) ≡ true = sym (c .before .before .before .before .both .ensures) ∙ c .before .before .before .if1 .taken in
+    rw begins (c .larger .ensures)
 
 returns-2 : tie.Need-returns-2
 returns-2 c = rw (sym (c .before .both .ensures) ∙ c .if1 .left)

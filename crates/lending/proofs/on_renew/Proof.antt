@@ -1,5 +1,8 @@
-use mathlib.Core.Path.{sym, _∙_}
+use mathlib.Core.Path.{_≡_, sym, _∙_}
+use mathlib.Core.Bool.{true}
+use lib.Dec.{leb}
 use borrow.Author.Needs.{needs}
+use Rattle.rules.specs.Conditions.{_and_}
 use Rattle.rules.specs.Server.{onRenew}
 use Rattle.lending.proofs.on_renew.Statement.{statement}
 use Rattle.lending.proofs.on_renew.Tie as tie
@@ -18,7 +21,11 @@ grant-requires c κs = search needs
 
 returns : tie.Need-returns
 unfolding onRenew
-returns c = rw (sym (c .before .before .before .before .both .ensures) ∙ c .before .before .before .if1 .taken, ← c .before .larger .ensures) (c .grant .ensures)
+returns c =
+    let b = c .before .before .before in
+    let a = b .before .before .args in
+    let lasts : (a .b .leads and leb (a .r) (a .e)) ≡ true = sym (b .before .both .ensures) ∙ b .if1 .taken in
+    rw (lasts, ← c .before .larger .ensures) (c .grant .ensures)
 
 nothing-requires : tie.Need-nothing-requires
 nothing-requires c κs = search needs

@@ -1,6 +1,6 @@
-use mathlib.Core.Path.{sym, _∙_}
+use mathlib.Core.Path.{_≡_, sym, _∙_}
 use borrow.Author.Needs.{needs}
-use Rattle.rules.specs.Server.{onRequest, grantable}
+use Rattle.rules.specs.Server.{hasPassed, grantable, onRequest}
 use Rattle.lending.proofs.on_request.Statement.{statement}
 use Rattle.lending.proofs.on_request.Tie as tie
 
@@ -18,8 +18,11 @@ grant-requires c κs = search needs
 
 returns : tie.Need-returns
 unfolding onRequest grantable
-returns c = let b = c .before .before .before in
-    rw (← b .before .is-expired .ensures, sym (b .both .ensures) ∙ c .before .before .if1 .taken) (c .grant .ensures)
+returns c =
+    let b = c .before .before .before in
+    let a = b .before .before .args in
+    let passed : b .before .is-expired .result ≡ hasPassed (a .c) (a .r) (a .b .potlease) = b .before .is-expired .ensures in
+    rw (← passed, sym (b .both .ensures) ∙ c .before .before .if1 .taken) (c .grant .ensures)
 
 nothing-requires : tie.Need-nothing-requires
 nothing-requires c κs = search needs

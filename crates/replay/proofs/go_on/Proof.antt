@@ -2,6 +2,7 @@ use native.Mathlib.Omega.{arith}
 use denote.Ref.{now}
 use borrow.Author.Needs.{needs}
 use Rattle.turns.proofs.Lines.{lines-few}
+use Rattle.replay.specs.Output.{pieceTurns}
 use Rattle.replay.proofs.go_on.Statement.{statement}
 use Rattle.replay.proofs.go_on.Tie as tie
 
@@ -10,7 +11,7 @@ put-turns-requires c κs =
     let entry = c .before .before .before in
     let u = entry .pre .0 in
     let r = entry .args .r in
-    (u, omega (arith, entry .pre .2, lines-few (now (entry .args .s)) (u .short) 2048 (r .facade) (r .place) (r .number) (u .sound) (u .counted)))
+    (u, omega (arith, entry .pre .2, lines-few (now (entry .args .s)) (u .short) pieceTurns (r .facade) (r .place) (r .number) (u .sound) (u .counted)))
 
 same-length : tie.Need-same-length
 same-length c = search needs

@@ -11,7 +11,8 @@ use Rattle.replay.proofs.run.Statement.{statement}
 use Rattle.replay.proofs.run.Tie as tie
 
 returns : tie.Need-returns
-returns c = short-is-left _ _ (c .if1 .taken)
+returns c = let a = c .before .before .before .args in
+    short-is-left (now (a .s)) (now (a .out)) (omega arith)
 
 begin-requires : tie.Need-begin-requires
 begin-requires c κs = omega (arith, c .before .if1 .left)

@@ -1,14 +1,20 @@
 #!/usr/bin/env python3
-"""Makes the stored scripts of crates/layout: crates/layout/data and the list of their names, crates/layout/args.
+"""Makes the stored scripts of crates/layout, crates/layout/data with the list of their names in crates/layout/args, and that of
+crates/rig, crates/rig/stdin.
 
-Each script stands at an edge of the layout of document 01, "Script and rig". Its name says which.
+Each script of layout stands at an edge of the layout of document 01, "Script and rig". Its name says which. That of the rig begins
+with the paper's example and goes on for longer than two pieces of 2,048 turns.
 """
 import os
 import struct
 
-FOLDER = os.path.join(os.path.dirname(os.path.abspath(__file__)), "..", "crates", "layout")
+CRATES = os.path.join(os.path.dirname(os.path.abspath(__file__)), "..", "crates")
+FOLDER = os.path.join(CRATES, "layout")
 FIELDS = {1: 3, 2: 1, 3: 1, 4: 3, 5: 1, 6: 2, 7: 2, 8: 2, 9: 1, 10: 1}
 GOOD = (2, 1, 1, 0, 5, 4, 10)
+EXAMPLE = [(1, 5, 0, 0), (4, 0, 1, 1), (4, 1, 0, 1)] * 2 + [
+    (1, 5, 0, 0), (5, 0), (8, 0, 0), (8, 1, 0), (6, 0, 100), (8, 1, 0), (8, 2, 0), (5, 0)
+]
 
 
 def header(numbers=GOOD, version=1):
@@ -78,10 +84,15 @@ def scripts():
     yield "4-before-5", script(bytes([1, 99]), record(1, 0, 0, 0))
     yield "3-before-4", script() + b"\x00" + bytes([1, 99])
     yield "wrong-length-and-field", script(bytes([14, 1]) + bytes(13))
-    example = [(1, 5, 0, 0), (4, 0, 1, 1), (4, 1, 0, 1)] * 2 + [(1, 5, 0, 0), (5, 0), (8, 0, 0), (8, 1, 0), (6, 0, 100), (8, 1, 0), (8, 2, 0), (5, 0)]
-    paper = script(*[record(*s) for s in example])
+    paper = script(*[record(*s) for s in EXAMPLE])
     assert len(paper) == 189
     yield "paper", paper
+
+
+def long_run():
+    # five ticks, a notice each way, and cleanups
+    turn = [(1, 5, 0, 0), (4, 0, 1, 1), (4, 1, 0, 1)] + [(10, 0), (10, 1)] * 4
+    return script(*[record(*s) for s in EXAMPLE + turn * 450])
 
 
 def main():
@@ -97,6 +108,8 @@ def main():
             f.write(content)
     with open(os.path.join(FOLDER, "args"), "w") as f:
         f.write("".join(n + "\n" for n in names))
+    with open(os.path.join(CRATES, "rig", "stdin"), "wb") as f:
+        f.write(long_run())
 
 
 if __name__ == "__main__":
