@@ -5,8 +5,8 @@
 //! out of its range, a message for another party, interaction 0; 5, a wanted end above
 //! 2,000,000,000; 6, no server or client of that number, a notice about the server
 //! itself or about one that does not exist; 7, a client in the wrong state; 12, an
-//! interaction above 1,000,000. Whether a server is alive is not tested: the firmware
-//! keeps the first number of its server, alive, at 1, and calls `pass_time` whenever
+//! interaction above 1,000,000. That a server is not alive is no reason to refuse: the
+//! firmware keeps the first number of its server, alive, at 1, and calls `pass_time` whenever
 //! its client's clock moves: no other function ends a hold.
 
 use crate::raw;

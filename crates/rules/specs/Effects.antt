@@ -372,7 +372,7 @@ effects-hold : map answerOf table ≡ map (λ x. record { refusal = 0; outcome =
 unfolding answerOf
 effects-hold = refl
 
--- What a server does by itself on its return: the facade adds only that it is alive, and since when.
+-- What a server does by itself on its return: to its value the facade adds only that it is alive, and since when.
 return-holds :
     afterReturn 101 (numbered 2 false)
     ≡ record {

@@ -150,7 +150,7 @@ onDiscover c k r b p q a = cond (offerable c r b) (offered k r b p q a) (binding
 abbrev pub offerableAt : Config → ℕ → List Bool → List Reservation → List ℕ → ℕ → Bool
 offerableAt c r leads reserved records a = mayOffer c r (getD leads a false) ((getD reserved a noReservation) .state) (getD records a 0)
 
--- "the lowest-numbered address that .."; where there is none, the first, which may not be offered
+-- "the lowest-numbered address that .."; where there is none, the first, which may not be offered then (A is at least 1)
 unfoldable pub lowestOfferable : Config → ℕ → List Bool → List Reservation → List ℕ → ℕ
 lowestOfferable c r leads reserved records =
     cond (ltb (lowest (offerableAt c r leads reserved records) 0 (c .addresses)) (c .addresses))
