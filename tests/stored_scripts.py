@@ -47,7 +47,7 @@ def scripts():
     yield "version-0", header(version=0)
     yield "version-2", header(version=2)
     yield "version-0-and-servers-5", header((5,) + GOOD[1:], 0)
-    names = ["servers", "clients", "addresses", "skew", "silence", "mclt", "hold"]
+    names = ["servers", "clients", "addresses", "skew", "detection", "mclt", "retention"]
     bounds = [(2, 4), (1, 32), (1, 32), (0, 1000), (1, 10000), (1, 1000000), (0, 1000000)]
     for i, (name, (low, high)) in enumerate(zip(names, bounds)):
         for n in [low, high, low - 1, high + 1]:

@@ -5,7 +5,7 @@
 
 #include "hoyllaqe.h"
 
-/* Two servers, a client, an address; clocks are exact, notices come every 5 ticks, a short lease is 4 ticks. */
+/* Two servers, a client, an address; skew 0 (clocks are exact), detection 5 (notices come every 5 ticks), mclt 4, retention 10. */
 static const uint32_t config[HOYLLAQE_CONFIG] = {2, 1, 1, 0, 5, 4, 10};
 
 /* Server 0 is new: alive, it believes everyone live. Client 0 is idle. */

@@ -21,7 +21,7 @@ extern "C" {
 #endif
 
 enum {
-    HOYLLAQE_CONFIG = 7,     /* numbers of a configuration: S, C, A, delta, nu, mu, theta */
+    HOYLLAQE_CONFIG = 7,     /* numbers of a configuration: S, C, A, skew (delta), detection (nu), mclt (mu), retention (theta) */
     HOYLLAQE_FACADE = 2778,  /* numbers of a facade */
     HOYLLAQE_SERVER = 423,   /* numbers of a server */
     HOYLLAQE_CLIENT = 4,     /* numbers of a client */

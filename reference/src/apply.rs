@@ -39,7 +39,7 @@ impl Facade {
         if now > LAST_TIME {
             return Err(Refusal::Time);
         }
-        if d + e < 0 || (offset + e).abs() > self.offset_bound() {
+        if d + e < 0 || (offset + e).abs() > self.skew() {
             return Err(Refusal::Clock);
         }
         if self.overdue_at(now) {
@@ -54,7 +54,7 @@ impl Facade {
     /// Refusal 10: some live server would be more than ν without a notice
     /// about another, whether that other is alive or not.
     fn overdue_at(&self, now: Tick) -> bool {
-        let earliest = now - self.notice_bound();
+        let earliest = now - self.detection();
         let count = self.servers.len();
         (0..count).any(|server| {
             let missed = |about| about != server && self.notice_times[server][about] < earliest;
@@ -116,7 +116,7 @@ impl Facade {
         }
         self.need_server(server, true)?;
         let subject = &self.servers[about];
-        let settled = self.time - subject.changed >= self.notice_bound();
+        let settled = self.time - subject.changed >= self.detection();
         if subject.alive != alive && settled {
             return Err(Refusal::FalseNotice);
         }
@@ -136,8 +136,8 @@ impl Facade {
     /// return. On beginning to lead it raises the record.
     fn choose_led(&mut self, server: usize) {
         let clock = self.clock(server);
-        let first_record = clock + self.short_lease() + 2 * self.offset_bound();
-        let wait = 2 * self.notice_bound() + 2 * self.offset_bound();
+        let first_record = clock + self.mclt() + 2 * self.skew();
+        let wait = 2 * self.detection() + 2 * self.skew();
         let count = self.servers.len();
         let state = &mut self.servers[server];
         let may_begin = clock >= state.return_reading + wait;
@@ -234,9 +234,9 @@ impl Facade {
     fn cleanup(&mut self, server: usize) -> Answer {
         self.need_server(server, true)?;
         let clock = self.clock(server);
-        let kept_for = self.reservation_time();
+        let retention = self.retention();
         for entry in &mut self.servers[server].entries {
-            if matches!(entry.reservation, Some(held) if held.reading + kept_for < clock) {
+            if matches!(entry.reservation, Some(held) if held.reading + retention < clock) {
                 entry.reservation = None;
             }
         }

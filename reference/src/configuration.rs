@@ -11,25 +11,21 @@ pub struct Configuration {
     /// A
     pub addresses: u32,
     /// Δ, the most by which a clock is off.
-    pub offset_bound: u32,
-    /// ν
-    pub notice_bound: u32,
-    /// μ
-    pub short_lease: u32,
-    /// θ
-    pub reservation_time: u32,
+    pub skew: u32,
+    /// ν, the paper's notice bound: the longest time that a live server is
+    /// without a notice about another.
+    pub detection: u32,
+    /// μ, the paper's short lease, the maximum client lead time: so long a
+    /// server may lend before the others know of it.
+    pub mclt: u32,
+    /// θ, the paper's reservation time: so long an offered address is kept
+    /// for its client.
+    pub retention: u32,
 }
 
 /// Names used by the text form, in header order.
-pub const NAMES: [&str; 7] = [
-    "servers",
-    "clients",
-    "addresses",
-    "offset-bound",
-    "notice-bound",
-    "short-lease",
-    "reservation-time",
-];
+pub const NAMES: [&str; 7] =
+    ["servers", "clients", "addresses", "skew", "detection", "mclt", "retention"];
 
 /// Least and largest allowed value of each number, in header order
 /// ("The facade").
@@ -38,17 +34,9 @@ pub const RANGES: [(u32, u32); 7] =
 
 impl Configuration {
     pub fn from_numbers(numbers: [u32; 7]) -> Self {
-        let [servers, clients, addresses, bounds @ ..] = numbers;
-        let [offset_bound, notice_bound, short_lease, reservation_time] = bounds;
-        Configuration {
-            servers,
-            clients,
-            addresses,
-            offset_bound,
-            notice_bound,
-            short_lease,
-            reservation_time,
-        }
+        let [servers, clients, addresses, times @ ..] = numbers;
+        let [skew, detection, mclt, retention] = times;
+        Configuration { servers, clients, addresses, skew, detection, mclt, retention }
     }
 
     pub fn numbers(&self) -> [u32; 7] {
@@ -56,10 +44,10 @@ impl Configuration {
             self.servers,
             self.clients,
             self.addresses,
-            self.offset_bound,
-            self.notice_bound,
-            self.short_lease,
-            self.reservation_time,
+            self.skew,
+            self.detection,
+            self.mclt,
+            self.retention,
         ]
     }
 

@@ -146,26 +146,26 @@ impl Facade {
         self.servers.len() + client
     }
 
-    pub fn offset_bound(&self) -> Tick {
-        Tick::from(self.configuration.offset_bound)
+    pub fn skew(&self) -> Tick {
+        Tick::from(self.configuration.skew)
     }
 
-    pub fn notice_bound(&self) -> Tick {
-        Tick::from(self.configuration.notice_bound)
+    pub fn detection(&self) -> Tick {
+        Tick::from(self.configuration.detection)
     }
 
-    pub fn short_lease(&self) -> Tick {
-        Tick::from(self.configuration.short_lease)
+    pub fn mclt(&self) -> Tick {
+        Tick::from(self.configuration.mclt)
     }
 
-    pub fn reservation_time(&self) -> Tick {
-        Tick::from(self.configuration.reservation_time)
+    pub fn retention(&self) -> Tick {
+        Tick::from(self.configuration.retention)
     }
 
     /// "record + 2Δ < clock": no lease of the address can still run.
     pub fn record_is_past(&self, server: usize, address: usize) -> bool {
         let record = self.servers[server].entries[address].record;
-        record + 2 * self.offset_bound() < self.clock(server)
+        record + 2 * self.skew() < self.clock(server)
     }
 
     /// How many clients hold.

@@ -71,7 +71,7 @@ impl Facade {
         room: Room,
     ) -> Answer {
         let clock = self.clock(server);
-        let margin = 2 * self.offset_bound();
+        let margin = 2 * self.skew();
         let entries = &mut self.servers[server].entries;
         let free = entries.iter().position(|entry| {
             entry.leads && entry.reservation.is_none() && entry.record + margin < clock
@@ -105,7 +105,7 @@ impl Facade {
         if !taken {
             return Ok(Outcome::NotMet);
         }
-        let lent_end = self.clock(asked.server) + self.short_lease();
+        let lent_end = self.clock(asked.server) + self.mclt();
         self.lend(asked, lent_end);
         Ok(Outcome::Done)
     }
@@ -125,7 +125,7 @@ impl Facade {
             return Ok(Outcome::NotMet);
         }
         room.need(self.servers.len())?;
-        let lent_end = entry.lent_end.max(clock + self.short_lease());
+        let lent_end = entry.lent_end.max(clock + self.mclt());
         self.lend(asked, lent_end);
         Ok(Outcome::Done)
     }

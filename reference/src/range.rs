@@ -35,9 +35,8 @@ impl Facade {
 
     /// True time, clocks, notice times and the next interaction number.
     fn times_fit(&self) -> bool {
-        let bound = self.offset_bound();
-        let clock_fits =
-            |offset: &Tick| (-bound..=bound).contains(offset) && self.time + offset >= 0;
+        let skew = self.skew();
+        let clock_fits = |offset: &Tick| (-skew..=skew).contains(offset) && self.time + offset >= 0;
         let count = self.servers.len();
         let mut pairs = (0..count).flat_map(|server| (0..count).map(move |about| (server, about)));
         (0..=LAST_TIME).contains(&self.time)

@@ -70,33 +70,33 @@ fn wrong_state(facade: &Facade, step: [u32; 4]) -> bool {
 
 fn wrong_clock(facade: &Facade, step: [u32; 4]) -> bool {
     let e = i64::from(step[3] as i32);
-    let bound = i64::from(facade.configuration.offset_bound);
+    let skew = i64::from(facade.configuration.skew);
     let offset = facade.offsets.get(step[2] as usize);
     i64::from(step[1]) + e < 0
-        || offset.is_some_and(|offset| offset + e > bound || offset + e < -bound)
+        || offset.is_some_and(|offset| offset + e > skew || offset + e < -skew)
 }
 
 fn overdue(facade: &Facade, d: i64) -> bool {
-    let bound = i64::from(facade.configuration.notice_bound);
+    let detection = i64::from(facade.configuration.detection);
     let mut late = false;
     for (server, state) in facade.servers.iter().enumerate() {
         for about in 0..facade.servers.len() {
             let without = facade.time + d - facade.notice_times[server][about];
-            late |= state.alive && about != server && without > bound;
+            late |= state.alive && about != server && without > detection;
         }
     }
     late
 }
 
 fn false_notice(facade: &Facade, step: [u32; 4]) -> bool {
-    let bound = i64::from(facade.configuration.notice_bound);
+    let detection = i64::from(facade.configuration.detection);
     let Some(subject) = facade.servers.get(step[2] as usize) else {
         return false;
     };
     let since = facade.time - subject.changed;
     match step[3] {
-        0 => subject.alive && since >= bound,
-        1 => !subject.alive && since >= bound,
+        0 => subject.alive && since >= detection,
+        1 => !subject.alive && since >= detection,
         _ => false,
     }
 }
@@ -123,7 +123,7 @@ fn sent(facade: &Facade, position: usize) -> usize {
         return 0;
     };
     let clock = facade.time + facade.offsets[message.to];
-    let margin = 2 * i64::from(facade.configuration.offset_bound);
+    let margin = 2 * i64::from(facade.configuration.skew);
     let count = facade.servers.len();
     match message.body {
         Body::Discover { .. } => {

@@ -8,7 +8,8 @@
 pub mod firmware;
 mod raw;
 
-/// How many numbers a configuration has: S, C, A, Δ, ν, μ, θ.
+/// How many numbers a configuration has: S, C, A, skew (Δ), detection (ν), mclt (μ),
+/// retention (θ).
 pub const CONFIGURATION: usize = 7;
 /// How many numbers a facade has.
 pub const FACADE: usize = 2778;

@@ -13,7 +13,7 @@ pub fn make(random: &mut Random) -> (Vec<u32>, [u32; 4]) {
     frame.waiting = random.pick(&[2, 4, 8, 8, 12, 12, 127, 128]);
     if random.chance(200) {
         // So early that clocks would be negative.
-        frame.time = random.between(0, frame.offset_bound());
+        frame.time = random.between(0, frame.skew());
     }
     let facade = paint(random, &frame);
     let step = if random.chance(850) {

@@ -21,7 +21,7 @@ pub fn make(random: &mut Random) -> (Vec<u32>, [u32; 4]) {
 
 /// A pass to the last time, one tick less or one more (refusal 8).
 fn last_pass(random: &mut Random, mut frame: Frame) -> (Facade, Step) {
-    let far = random.between(1, frame.notice_bound());
+    let far = random.between(1, frame.detection());
     let left = random.pick(&[0, 1, 1, 2, far, far]);
     frame.time = LAST_TIME - left;
     let mut facade = paint(random, &frame);
@@ -31,8 +31,8 @@ fn last_pass(random: &mut Random, mut frame: Frame) -> (Facade, Step) {
     let d = (left + random.pick(&[-1, 0, 0, 1, 1, 2])).max(1);
     let party = random.below(facade.offsets.len());
     let offset = facade.offsets[party];
-    let bound = facade.offset_bound();
-    let e = random.pick(&[0, 0, bound - offset, -bound - offset, bound + 1 - offset]);
+    let skew = facade.skew();
+    let e = random.pick(&[0, 0, skew - offset, -skew - offset, skew + 1 - offset]);
     let most = Tick::from(LARGEST_E);
     (facade, Step::Pass { d, party, e: e.clamp(-most, most) })
 }
@@ -67,10 +67,10 @@ fn last_interaction(random: &mut Random, mut frame: Frame) -> (Facade, Step) {
 fn largest_clocks(random: &mut Random, frame: Frame) -> (Facade, Step) {
     let mut frame = plant::plantable(frame);
     frame.time = LAST_TIME - random.pick(&[0, 0, 1]);
-    frame.configuration.offset_bound = random.pick(&[999, 1_000, 1_000]);
-    frame.configuration.short_lease = random.pick(&[1, 1_000_000, 1_000_000]);
+    frame.configuration.skew = random.pick(&[999, 1_000, 1_000]);
+    frame.configuration.mclt = random.pick(&[1, 1_000_000, 1_000_000]);
     let mut facade = paint(random, &frame);
-    let ahead = facade.offset_bound();
+    let ahead = facade.skew();
     facade.offsets.fill(ahead);
     if random.chance(500) {
         let position = random.below(facade.waiting.len());
@@ -85,7 +85,7 @@ fn largest_clocks(random: &mut Random, frame: Frame) -> (Facade, Step) {
 /// All servers are dead, so that only the fields limit a pass; a clock goes
 /// from one end of its range to the other.
 fn longest_pass(random: &mut Random, mut frame: Frame) -> (Facade, Step) {
-    frame.configuration.offset_bound = 1_000;
+    frame.configuration.skew = 1_000;
     frame.time = frame.time.max(1_000);
     let mut facade = paint(random, &frame);
     facade.servers.iter_mut().for_each(|server| server.alive = false);

@@ -37,23 +37,23 @@ impl Frame {
         self.configuration.clients as usize
     }
 
-    pub fn offset_bound(&self) -> Tick {
-        self.configuration.offset_bound.into()
+    pub fn skew(&self) -> Tick {
+        self.configuration.skew.into()
     }
 
-    pub fn notice_bound(&self) -> Tick {
-        self.configuration.notice_bound.into()
+    pub fn detection(&self) -> Tick {
+        self.configuration.detection.into()
     }
 
     /// Late enough for every clock to be past a record of 0.
     pub fn at_lendable_time(mut self) -> Frame {
-        self.time = self.time.max(3 * self.offset_bound() + 1);
+        self.time = self.time.max(3 * self.skew() + 1);
         self
     }
 
     /// So late that something can be ν ago.
     pub fn at_settled_time(mut self) -> Frame {
-        self.time = self.time.max(self.notice_bound());
+        self.time = self.time.max(self.detection());
         self
     }
 

@@ -164,10 +164,10 @@ impl Limits<'_> {
     /// True time, and by how much clocks are ahead.
     fn add_times(&mut self) {
         let time = self.facade.time;
-        let bound = self.facade.offset_bound();
+        let skew = self.facade.skew();
         for party in 0..self.facade.offsets.len() {
             let sort = ("offset", usize::from(party < self.facade.servers.len()));
-            self.add(sort, places::offset(party), (-bound).max(-time), bound);
+            self.add(sort, places::offset(party), (-skew).max(-time), skew);
         }
         let changes = self.facade.servers.iter().map(|server| server.changed);
         let notices = self.facade.notice_times.iter().flatten().copied();

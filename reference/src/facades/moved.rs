@@ -14,7 +14,7 @@ pub fn pass(random: &mut Random, rules: Rules) -> (Facade, [u32; 4]) {
         frame = frame.at_settled_time();
     }
     // A clock can go back only from a short pass.
-    let longest = if rules.has(9) { frame.notice_bound().min(1_999) } else { frame.notice_bound() };
+    let longest = if rules.has(9) { frame.detection().min(1_999) } else { frame.detection() };
     let inside = random.between(1, longest);
     let d = random.pick(&[1, inside, longest]);
     frame.time = if rules.has(8) {
@@ -35,7 +35,7 @@ pub fn pass(random: &mut Random, rules: Rules) -> (Facade, [u32; 4]) {
 /// Notices that are new enough for a pass of length d, but for one if one is
 /// to be overdue.
 fn give_notices(random: &mut Random, facade: &mut Facade, d: Tick, overdue: bool) {
-    let oldest = facade.time + d - facade.notice_bound();
+    let oldest = facade.time + d - facade.detection();
     let earliest = oldest.max(0);
     let count = facade.servers.len();
     for server in 0..count {
@@ -55,16 +55,16 @@ fn give_notices(random: &mut Random, facade: &mut Facade, d: Tick, overdue: bool
 
 /// An e that keeps the clock right, or one for refusal 9.
 fn clock_change(random: &mut Random, facade: &Facade, party: usize, d: Tick, rules: Rules) -> Tick {
-    let bound = facade.offset_bound();
+    let skew = facade.skew();
     let offset = facade.offsets[party];
     if !rules.has(9) {
-        let inside = random.between(-bound, bound);
-        let e = random.pick(&[-bound, bound, inside, offset, offset]) - offset;
+        let inside = random.between(-skew, skew);
+        let e = random.pick(&[-skew, skew, inside, offset, offset]) - offset;
         return e.max(-d);
     }
     let back = -d - 1;
     let far_back = random.between(-LONGEST_BACK, back);
-    let e = random.pick(&[back, far_back, bound + 1 - offset, -bound - 1 - offset]);
+    let e = random.pick(&[back, far_back, skew + 1 - offset, -skew - 1 - offset]);
     // Nothing else is wrong with the clock of a party that does not exist.
     if rules.has(6) || e.abs() > LONGEST_BACK {
         back
@@ -119,7 +119,7 @@ pub fn notice(random: &mut Random, rules: Rules) -> (Facade, [u32; 4]) {
 /// Of the server that the notice is about.
 fn change_time(random: &mut Random, facade: &Facade, is_true: bool, rules: Rules) -> Tick {
     let time = facade.time;
-    let settled = time - facade.notice_bound();
+    let settled = time - facade.detection();
     if rules.has(11) {
         let inside = random.between(0, settled);
         random.pick(&[settled, settled, inside])

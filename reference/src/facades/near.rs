@@ -88,7 +88,7 @@ fn spoil_for_client(random: &mut Random, facade: &mut Facade, position: usize) {
 fn spoil_for_server(random: &mut Random, facade: &mut Facade, position: usize) {
     let Message { to, body, .. } = facade.waiting[position];
     let clock = facade.clock(to);
-    let latest = clock - 2 * facade.offset_bound();
+    let latest = clock - 2 * facade.skew();
     let entries = &mut facade.servers[to].entries;
     match body {
         // The lowest address that is free counts, so none may be.
@@ -128,12 +128,12 @@ fn spoil_entry(random: &mut Random, entry: &mut AddressEntry, latest: Tick) {
 
 /// A notice to a server that has returned 2ν + 2Δ ago, or a tick less.
 fn leading(random: &mut Random, mut frame: Frame) -> (Facade, Step) {
-    let wait = 2 * frame.notice_bound() + 2 * frame.offset_bound();
-    frame.time = frame.time.max(wait + frame.offset_bound());
+    let wait = 2 * frame.detection() + 2 * frame.skew();
+    frame.time = frame.time.max(wait + frame.skew());
     let mut facade = paint(random, &frame);
     let server = random.below(facade.servers.len());
     let clock = facade.clock(server);
-    let begun = clock + facade.short_lease() + 2 * facade.offset_bound();
+    let begun = clock + facade.mclt() + 2 * facade.skew();
     let all = ServerSet::all(facade.servers.len());
     let state = &mut facade.servers[server];
     state.alive = true;
@@ -169,7 +169,7 @@ fn ending(random: &mut Random, frame: Frame) -> (Facade, Step) {
 fn cleanup(random: &mut Random, frame: Frame) -> (Facade, Step) {
     let mut facade = paint(random, &frame);
     let server = random.below(facade.servers.len());
-    let kept = facade.clock(server) - facade.reservation_time();
+    let kept = facade.clock(server) - facade.retention();
     let state = &mut facade.servers[server];
     state.alive = true;
     for entry in &mut state.entries {

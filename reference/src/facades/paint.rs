@@ -36,13 +36,13 @@ impl Painter<'_> {
     /// The offsets and the times of notices.
     fn paint_times(&mut self, recent: bool) {
         let time = self.facade.time;
-        let bound = self.facade.offset_bound();
-        let least = (-bound).max(-time);
+        let skew = self.facade.skew();
+        let least = (-skew).max(-time);
         for party in 0..self.facade.offsets.len() {
-            let inside = self.random.between(least, bound);
-            self.facade.offsets[party] = self.random.pick(&[0, 0, least, bound, inside]);
+            let inside = self.random.between(least, skew);
+            self.facade.offsets[party] = self.random.pick(&[0, 0, least, skew, inside]);
         }
-        let earliest = if recent { (time - self.facade.notice_bound()).max(0) } else { 0 };
+        let earliest = if recent { (time - self.facade.detection()).max(0) } else { 0 };
         let count = self.facade.servers.len();
         for server in 0..count {
             for about in (0..count).filter(|&about| about != server) {
@@ -56,9 +56,9 @@ impl Painter<'_> {
     fn server(&mut self, server: usize) -> Server {
         let time = self.facade.time;
         let clock = self.facade.clock(server);
-        let bound = self.facade.notice_bound();
-        let changed = self.near(&[0, time, time - bound, time - bound + 1], time);
-        let wait = 2 * bound + 2 * self.facade.offset_bound();
+        let detection = self.facade.detection();
+        let changed = self.near(&[0, time, time - detection, time - detection + 1], time);
+        let wait = 2 * detection + 2 * self.facade.skew();
         Server {
             alive: self.random.chance(780),
             changed: changed.min(time),
@@ -104,15 +104,15 @@ impl Painter<'_> {
             return None;
         }
         let clock = self.facade.clock(server);
-        let dropped = clock - self.facade.reservation_time();
+        let dropped = clock - self.facade.retention();
         let reading = self.near(&[dropped, dropped, clock], LARGEST_READING);
         Some(Reservation { interaction, reading })
     }
 
     fn record(&mut self, server: usize) -> Tick {
         let clock = self.facade.clock(server);
-        let margin = 2 * self.facade.offset_bound();
-        let begun = clock + self.facade.short_lease() + margin;
+        let margin = 2 * self.facade.skew();
+        let begun = clock + self.facade.mclt() + margin;
         match self.random.weighted(&[45, 25, 30]) {
             0 => self.random.between(0, clock - margin - 1),
             1 => self.near(&[clock - margin, clock - margin, begun], LARGEST_END.into()),
@@ -168,9 +168,9 @@ impl Painter<'_> {
     /// An end that the party's clock may be just at.
     pub fn end(&mut self, party: usize) -> Tick {
         let clock = self.facade.clock(party);
-        let lease = self.facade.short_lease();
+        let mclt = self.facade.mclt();
         let soon = clock + self.random.between(0, 100);
-        self.near(&[0, clock, clock, clock + lease, soon, soon], LARGEST_END.into())
+        self.near(&[0, clock, clock, clock + mclt, soon, soon], LARGEST_END.into())
     }
 
     /// One of these or a tick beside it, or any number, or the largest.

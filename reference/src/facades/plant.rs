@@ -103,7 +103,7 @@ impl Painter<'_> {
 
     /// A record that the clock has passed by more than 2Δ.
     fn past_record(&mut self, server: usize) -> Tick {
-        let latest = self.facade.clock(server) - 2 * self.facade.offset_bound() - 1;
+        let latest = self.facade.clock(server) - 2 * self.facade.skew() - 1;
         let any = self.random.between(0, latest);
         self.random.pick(&[any, latest])
     }

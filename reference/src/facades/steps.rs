@@ -60,7 +60,7 @@ fn slack(facade: &Facade) -> Tick {
         let others = (0..count).filter(move |&about| about != server);
         others.map(move |about| facade.notice_times[server][about])
     });
-    let limits = times.map(|time| time + facade.notice_bound() - facade.time);
+    let limits = times.map(|time| time + facade.detection() - facade.time);
     limits.min().unwrap_or(LONGEST_PASS.into()).min(LAST_TIME - facade.time)
 }
 
@@ -72,12 +72,12 @@ pub fn pass(random: &mut Random, facade: &Facade) -> Step {
         _ if party == parties => 0,
         // Mostly to a limit, now and then past it.
         1 => {
-            let bound = facade.offset_bound();
-            let inside = random.between(-bound, bound);
-            random.pick(&[-bound, bound, inside]) - facade.offsets[party]
+            let skew = facade.skew();
+            let inside = random.between(-skew, skew);
+            random.pick(&[-skew, skew, inside]) - facade.offsets[party]
         }
         _ => {
-            let beyond = facade.offset_bound() + 1;
+            let beyond = facade.skew() + 1;
             random.pick(&[-beyond, beyond]) - facade.offsets[party]
         }
     };
@@ -152,5 +152,5 @@ fn position(random: &mut Random, facade: &Facade) -> usize {
 fn wanted(random: &mut Random, facade: &Facade) -> Tick {
     let largest = Tick::from(LARGEST_END);
     let any = random.between(0, largest);
-    random.pick(&[0, 1, facade.time, facade.time + facade.short_lease(), any, largest])
+    random.pick(&[0, 1, facade.time, facade.time + facade.mclt(), any, largest])
 }

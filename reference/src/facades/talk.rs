@@ -65,7 +65,7 @@ impl Painter<'_> {
 
     /// A τ.
     pub fn wanted(&mut self, server: usize) -> Tick {
-        let lent = self.facade.clock(server) + self.facade.short_lease();
+        let lent = self.facade.clock(server) + self.facade.mclt();
         let later = lent + self.random.between(0, 300);
         self.near(&[0, lent, later, later], LARGEST_END.into())
     }

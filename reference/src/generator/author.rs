@@ -72,10 +72,10 @@ impl Author {
     /// How far true time may pass without refusals 5, 8 and 10.
     pub fn slack(&self) -> Tick {
         let facade = &self.facade;
-        let bound = facade.notice_bound();
+        let detection = facade.detection();
         let notices = self
             .pairs()
-            .map(|(server, about)| facade.notice_times[server][about] + bound - facade.time);
+            .map(|(server, about)| facade.notice_times[server][about] + detection - facade.time);
         let slack = notices.min().unwrap_or(Tick::from(LONGEST_PASS));
         slack.min(Tick::from(LONGEST_PASS)).min(LAST_TIME - facade.time)
     }

@@ -45,21 +45,21 @@ impl Edges<'_> {
         let facade = self.facade;
         let state = &facade.servers[server];
         // Refusal 11 changes ν after c.
-        let settled = state.changed + facade.notice_bound() - facade.time;
+        let settled = state.changed + facade.detection() - facade.time;
         self.add_length(settled - 1);
         self.add_length(settled);
         if !state.alive {
             return;
         }
-        let margin = 2 * facade.offset_bound();
-        let wait = 2 * facade.notice_bound() + margin;
+        let margin = 2 * facade.skew();
+        let wait = 2 * facade.detection() + margin;
         self.add(server, state.return_reading + wait - 1);
         for entry in &state.entries {
             if entry.leads {
                 self.add(server, entry.record + margin);
             }
             if let Some(held) = entry.reservation {
-                self.add(server, held.reading + facade.reservation_time());
+                self.add(server, held.reading + facade.retention());
             }
         }
     }

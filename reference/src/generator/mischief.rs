@@ -122,10 +122,10 @@ impl Author {
     fn bad_clock(&mut self) -> Option<RawStep> {
         let party = self.random.below(self.facade.offsets.len());
         let slack = self.slack().max(1);
-        let bound = self.facade.offset_bound();
+        let skew = self.facade.skew();
         let offset = self.facade.offsets[party];
-        let too_far = bound + 1 - offset;
-        let too_far_back = -bound - 1 - offset;
+        let too_far = skew + 1 - offset;
+        let too_far_back = -skew - 1 - offset;
         let (d, e) = match self.random.below(4) {
             0 => (1, -2),
             1 => {
@@ -152,8 +152,7 @@ impl Author {
     /// Refusal 11, if some notice would be false and late.
     fn false_notice(&mut self) -> Option<RawStep> {
         let facade = &self.facade;
-        let late =
-            |about: usize| facade.time - facade.servers[about].changed >= facade.notice_bound();
+        let late = |about: usize| facade.time - facade.servers[about].changed >= facade.detection();
         let pairs: Vec<_> = self.pairs().filter(|&(_, about)| late(about)).collect();
         if pairs.is_empty() {
             return None;

@@ -12,55 +12,55 @@ pub fn deep(random: &mut Random) -> Configuration {
     let servers = [2, 3, 4][random.weighted(&[45, 30, 25])];
     let clients = count(random);
     let addresses = count(random);
-    let notice_bound = match random.weighted(&[8, 22, 25, 30, 15]) {
+    let detection = match random.weighted(&[8, 22, 25, 30, 15]) {
         0 => random.between(1, 3),
         1 => random.between(4, 20),
         2 => random.between(20, 500),
         3 => random.between(500, 9_999),
         _ => 10_000,
     };
-    let offset_bound = match random.weighted(&[25, 20, 35, 15, 5]) {
+    let skew = match random.weighted(&[25, 20, 35, 15, 5]) {
         0 => 0,
         1 => random.between(1, 3),
-        2 => random.between(0, notice_bound / 2),
-        3 => random.between(0, notice_bound),
+        2 => random.between(0, detection / 2),
+        3 => random.between(0, detection),
         _ => 1_000,
     };
-    let offset_bound = offset_bound.min(1_000);
+    let skew = skew.min(1_000);
     Configuration::from_numbers([
         servers,
         clients,
         addresses,
-        offset_bound as u32,
-        notice_bound as u32,
-        short_lease(random, offset_bound, notice_bound),
-        reservation_time(random, notice_bound),
+        skew as u32,
+        detection as u32,
+        mclt(random, skew, detection),
+        retention(random, detection),
     ])
 }
 
 /// Mostly above 2Δ, so that an ack is still in time on any clock.
-fn short_lease(random: &mut Random, offset_bound: i64, notice_bound: i64) -> u32 {
-    let margin = 2 * offset_bound;
-    let lease = match random.weighted(&[40, 30, 12, 8, 6, 4]) {
-        0 => margin + random.between(1, notice_bound),
-        1 => margin + random.between(1, 3 * notice_bound),
+fn mclt(random: &mut Random, skew: i64, detection: i64) -> u32 {
+    let margin = 2 * skew;
+    let mclt = match random.weighted(&[40, 30, 12, 8, 6, 4]) {
+        0 => margin + random.between(1, detection),
+        1 => margin + random.between(1, 3 * detection),
         2 => margin + 1,
         3 => random.between(1, 4),
-        4 => 10 * notice_bound,
+        4 => 10 * detection,
         _ => 1_000_000,
     };
-    lease.clamp(1, 1_000_000) as u32
+    mclt.clamp(1, 1_000_000) as u32
 }
 
-fn reservation_time(random: &mut Random, notice_bound: i64) -> u32 {
-    let time = match random.weighted(&[15, 15, 35, 25, 10]) {
+fn retention(random: &mut Random, detection: i64) -> u32 {
+    let retention = match random.weighted(&[15, 15, 35, 25, 10]) {
         0 => 0,
         1 => 1,
-        2 => random.between(0, notice_bound),
-        3 => random.between(0, 4 * notice_bound),
+        2 => random.between(0, detection),
+        3 => random.between(0, 4 * detection),
         _ => 1_000_000,
     };
-    time.min(1_000_000) as u32
+    retention.min(1_000_000) as u32
 }
 
 /// A number of clients or addresses.

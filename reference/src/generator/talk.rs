@@ -103,8 +103,8 @@ impl Author {
     /// A τ. A record that is far off blocks the address for the whole script.
     fn wanted(&mut self, client: usize) -> Tick {
         let clock = self.facade.clock(self.facade.client_party(client));
-        let lease = self.facade.short_lease();
-        let bound = self.facade.notice_bound();
+        let mclt = self.facade.mclt();
+        let detection = self.facade.detection();
         let largest = Tick::from(LARGEST_END);
         if self.random.chance(self.temper.far) {
             let any = self.random.between(0, largest);
@@ -112,9 +112,9 @@ impl Author {
         }
         let wanted = match self.random.weighted(&[10, 15, 40, 25]) {
             0 => 0,
-            1 => clock + lease + self.random.between(-1, 1),
-            2 => clock + self.random.between(1, self.temper.stretch as Tick * bound),
-            _ => clock + self.random.between(1, 4 * lease),
+            1 => clock + mclt + self.random.between(-1, 1),
+            2 => clock + self.random.between(1, self.temper.stretch as Tick * detection),
+            _ => clock + self.random.between(1, 4 * mclt),
         };
         wanted.clamp(0, largest)
     }

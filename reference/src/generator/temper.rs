@@ -19,7 +19,7 @@ pub struct Temper {
     /// Chance of a notice where time could pass.
     pub gossip: usize,
     /// Chance that a pass moves an offset.
-    pub skew: usize,
+    pub drift: usize,
     /// Chance that a wanted end is far off.
     pub far: usize,
     /// How many ν a wanted end is off at most, if it is not far off.
@@ -46,7 +46,7 @@ impl Temper {
         lie: 30,
         flap: 1,
         gossip: 100,
-        skew: 150,
+        drift: 150,
         far: 10,
         stretch: 5,
         fail: 1,
@@ -78,7 +78,7 @@ impl Temper {
                 stretch: random.pick(&[5, 30, 100]),
                 ..calm
             },
-            Kind::Skewed => Temper { skew: random.pick(&[600, 950]), mischief: 40, ..calm },
+            Kind::Skewed => Temper { drift: random.pick(&[600, 950]), mischief: 40, ..calm },
             Kind::Crowded => Temper {
                 keep: random.pick(&[200, 500, 800]),
                 crowd: 200,

@@ -32,7 +32,7 @@ impl Author {
     /// still taken.
     pub fn flapping_pairs(&self) -> Vec<(usize, usize)> {
         let facade = &self.facade;
-        let wait = 2 * facade.notice_bound() + 2 * facade.offset_bound();
+        let wait = 2 * facade.detection() + 2 * facade.skew();
         let may_lead =
             |server: usize| facade.clock(server) >= facade.servers[server].return_reading + wait;
         self.pairs().filter(|&(server, about)| may_lead(server) && self.is_fresh(about)).collect()
@@ -40,11 +40,11 @@ impl Author {
 
     /// A false notice about the server is still taken.
     fn is_fresh(&self, server: usize) -> bool {
-        self.facade.time - self.facade.servers[server].changed < self.facade.notice_bound()
+        self.facade.time - self.facade.servers[server].changed < self.facade.detection()
     }
 
     fn pass_step(&mut self, slack: Tick) -> Step {
-        let (party, e) = self.skew();
+        let (party, e) = self.drift();
         // A clock may not go back.
         let least = (-e).max(1);
         let mut edges = edge_lengths(&self.facade, slack, party, e);
@@ -63,17 +63,17 @@ impl Author {
     }
 
     /// A party and how far to move its offset, mostly to a limit.
-    fn skew(&mut self) -> (usize, Tick) {
+    fn drift(&mut self) -> (usize, Tick) {
         let parties = self.facade.offsets.len();
         let servers = self.facade.servers.len();
         let among = if self.random.chance(500) { servers } else { parties };
         let party = self.random.below(among);
-        if !self.random.chance(self.temper.skew) {
+        if !self.random.chance(self.temper.drift) {
             return (party, 0);
         }
-        let bound = self.facade.offset_bound();
-        let inside = self.random.between(-bound, bound);
-        let target = self.random.pick(&[-bound, bound, inside]);
+        let skew = self.facade.skew();
+        let inside = self.random.between(-skew, skew);
+        let target = self.random.pick(&[-skew, skew, inside]);
         let most = Tick::from(LARGEST_E);
         let e = (target - self.facade.offsets[party]).clamp(-most, most);
         (party, e)

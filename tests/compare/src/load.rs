@@ -95,15 +95,15 @@ impl Maker {
 
     /// Rounds until every address is led and its first record is past.
     fn settle(&mut self) {
-        let [bound, margin] = [self.facade.notice_bound(), 2 * self.facade.offset_bound()];
-        for d in [bound, bound, margin.max(1), self.facade.short_lease() + 2 * margin + 1] {
+        let [detection, margin] = [self.facade.detection(), 2 * self.facade.skew()];
+        for d in [detection, detection, margin.max(1), self.facade.mclt() + 2 * margin + 1] {
             self.round(d);
         }
     }
 
     /// What the client can ask for in its state.
     fn ask(&mut self, client: usize) {
-        let wanted = self.facade.time + 3 * self.facade.short_lease();
+        let wanted = self.facade.time + 3 * self.facade.mclt();
         self.put(match self.facade.clients[client] {
             Client::Offered { .. } => Step::Request { client, wanted },
             Client::Holding { .. } => Step::Renew { client, wanted },
@@ -116,10 +116,10 @@ const FEW: Configuration = Configuration {
     servers: 2,
     clients: 1,
     addresses: 1,
-    offset_bound: 1,
-    notice_bound: 60,
-    short_lease: 50,
-    reservation_time: 20,
+    skew: 1,
+    detection: 60,
+    mclt: 50,
+    retention: 20,
 };
 
 /// One client is lent the one address and renews it without end; every
@@ -140,10 +140,10 @@ const MANY: Configuration = Configuration {
     servers: 4,
     clients: 32,
     addresses: 32,
-    offset_bound: 10,
-    notice_bound: 10_000,
-    short_lease: 5_000,
-    reservation_time: 500,
+    skew: 10,
+    detection: 10_000,
+    mclt: 5_000,
+    retention: 500,
 };
 
 /// Messages that wait all the time, about this many.
