@@ -16,7 +16,8 @@ use Rattle.rules.specs.Parts.{noMessage}
 use Rattle.rules.specs.Messages.{sentBehind, removed}
 use Rattle.rules.proofs.Cable.{length-sent, length-removed, removed-case}
 use Rattle.cable.specs.Exchange.{restOf, exchanged}
-use Rattle.cable.specs.Places.{firstOf, endOf, messageSent}
+use Rattle.cable.specs.Places.{firstOf, endOf, spanOf, messageSent}
+use Rattle.cable.specs.declared.Span.{Span}
 
 -- what is put behind the rest: what the outbox holds, then no message
 abbrev pub sentAt : Outbox → ℕ → Message
@@ -181,6 +182,11 @@ moving-start {ms} {p} {n} {taken} {o} whole fits there stay end e = record {
   done = λ j h. sym (exchanged-below ms p n taken o (omega arith) there j (omega arith));
   left = λ j h. refl;
 }
+
+-- that of the span x
+pub moving-span : {ms : List Message} {p n : ℕ} {taken : Bool} {o : Outbox} {x : Span}
+    → length ms ≡ 128 → n ≤ 128 → (T taken → p < n) → x ≡ spanOf p n taken (o .count) → Moving ms p n taken o (x .rest) (x .last) (x .first) ms
+moving-span whole fits there e = moving-start whole fits there (rw e) (rw e) (rw e)
 
 module _ {ms : List Message} {p n : ℕ} {taken : Bool} {o : Outbox} {rest last i : ℕ} {out : List Message} (m : Moving ms p n taken o rest last i out) where
   inside : n ≤ length ms

@@ -1,14 +1,21 @@
 // The waiting messages, in the order sent: one is taken out, and what a step sends waits behind the rest.
 // A caller that keeps the messages in a local writes the loops of `remove` and `send` there, as handing the messages over
-// copies them: from `first_of` on up to `rest_of` a place gets the message above it, then up to `end_of` a `message_sent`.
+// copies them: of the span of an exchange a place gets the message above it up to `rest`, then up to `last` a `message_sent`.
 use types::Message;
 use types::Outbox;
 ghost use mathlib.Core.Path.{_≡_};
 ghost use Prim.Native.Nat.{_≤_, _<_};
 ghost use lib.Dec.{T};
 ghost use Rattle.rules.specs.Messages.{removed, sentBehind};
-ghost use Rattle.cable.specs.Exchange.{restOf, exchanged};
-ghost use Rattle.cable.specs.Places.{firstOf, endOf, messageSent};
+ghost use Rattle.cable.specs.Exchange.{restOf, roomFor, exchanged};
+ghost use Rattle.cable.specs.Places.{firstOf, endOf, spanOf, messageSent};
+
+// The places that an exchange changes: from `first` on messages move up, from `rest` on what is sent is put, up to `last`.
+pub struct Span {
+    pub first: u32,
+    pub rest: u32,
+    pub last: u32,
+}
 
 // How many of n waiting messages stay, where one is taken out if `taken`.
 pub fn rest_of(n: u32, taken: bool) -> u32
@@ -18,8 +25,16 @@ pub fn rest_of(n: u32, taken: bool) -> u32
     if taken { n - 1 } else { n }
 }
 
+// Whether so many more find room, where one of n waiting messages is taken out first if `taken`.
+pub fn has_room(n: u32, taken: bool, count: u32) -> bool
+    requires { ⌜ (n ≤ 128) × (count ≤ 4) × (T taken → 1 ≤ n) ⌝ }
+    ensures { λ r. ⌜ r ≡ roomFor n taken count ⌝ }
+{
+    rest_of(n, taken) + count <= 128
+}
+
 // The first place that changes: that of the message at p, if it is taken out, or that behind the n that wait.
-pub fn first_of(p: u32, n: u32, taken: bool) -> u32
+fn first_of(p: u32, n: u32, taken: bool) -> u32
     ensures { λ r. ⌜ r ≡ firstOf p n taken ⌝ }
 {
     if taken { p } else { n }
@@ -27,7 +42,7 @@ pub fn first_of(p: u32, n: u32, taken: bool) -> u32
 
 // The place behind the last one that changes, where n messages waited, `rest` of them stay and `count` are sent.
 // What there is no room for is dropped; refusal 13 stands before.
-pub fn end_of(n: u32, rest: u32, count: u32) -> u32
+fn end_of(n: u32, rest: u32, count: u32) -> u32
     requires { ⌜ (n ≤ 128) × (rest ≤ n) × (count ≤ 4) ⌝ }
     ensures { λ r. ⌜ r ≡ endOf n rest count ⌝ }
 {
@@ -39,6 +54,19 @@ pub fn end_of(n: u32, rest: u32, count: u32) -> u32
         return behind;
     }
     128
+}
+
+// The places that change where the message at p of n waiting ones is taken out if `taken`, and `count` are sent.
+pub fn span_of(p: u32, n: u32, taken: bool, count: u32) -> Span
+    requires { ⌜ (n ≤ 128) × (count ≤ 4) × (T taken → 1 ≤ n) ⌝ }
+    ensures { λ r. ⌜ r ≡ spanOf p n taken count ⌝ }
+{
+    let rest = rest_of(n, taken);
+    Span {
+        first: first_of(p, n, taken),
+        rest: rest,
+        last: end_of(n, rest, count),
+    }
 }
 
 // What the k-th place behind the rest holds: m, the message at k of an outbox of so many, or no message.

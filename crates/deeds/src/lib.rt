@@ -1,15 +1,12 @@
-// What happens in a step that is not refused, by the party to which it happens.
+// What a party does to which something happens.
 use client::discover;
 use client::renew;
 use client::request;
 use clocks::row_now;
 use outbox::nothing;
-use types::Action;
 use types::ClientAnswer;
 use types::ClientEvent;
 use types::Config;
-use types::Deed;
-use types::Message;
 use types::Server;
 use types::ServerAnswer;
 use types::ServerEvent;
@@ -21,58 +18,9 @@ ghost use lib.ListN.{set};
 ghost use Rattle.rules.specs.Parts.{withLife};
 ghost use Rattle.rules.specs.Messages.{nothing as nothingSent};
 ghost use Rattle.rules.specs.Server.{answer};
-ghost use Rattle.rules.specs.Steps.{takes, delivered, deed, serverAfter, noticesAfter, clientAfter, nextAfter};
+ghost use Rattle.rules.specs.Steps.{serverAfter, noticesAfter, clientAfter, nextAfter};
 ghost use Rattle.rules.proofs.Kept.{Configured};
 ghost use Rattle.deeds.specs.Deeds.{eventInRange};
-
-// Whether the message that the step names is taken out.
-pub fn takes_out(x: Action) -> bool
-    ensures { λ r. ⌜ r ≡ takes x ⌝ }
-{
-    match x {
-        Action::Pass(_, _, _) => false,
-        Action::Fail(_) => false,
-        Action::Return(_) => false,
-        Action::Notice(_, _, _) => false,
-        Action::Discover(_) => false,
-        Action::Request(_, _) => false,
-        Action::Renew(_, _) => false,
-        Action::Deliver(_, keep) => keep == 0,
-        Action::Lose(_) => true,
-        Action::Cleanup(_) => false,
-        Action::Unknown => false,
-    }
-}
-
-// A message is handled by the party that it is for.
-fn delivery(c: Config, m: Message) -> Deed
-    ensures { λ d. ⌜ d ≡ delivered c m ⌝ }
-{
-    let to = m.receiver;
-    if to < c.servers {
-        return Deed::Serves(to, ServerEvent::Receives(m));
-    }
-    Deed::Asks(to - c.servers, ClientEvent::Hears(m))
-}
-
-// What happens in a step, where m is the message at the position that it names.
-pub fn deed_of(c: Config, m: Message, x: Action) -> Deed
-    ensures { λ d. ⌜ d ≡ deed c m x ⌝ }
-{
-    match x {
-        Action::Pass(d, p, e) => Deed::Passes(d, p, e),
-        Action::Fail(k) => Deed::Serves(k, ServerEvent::Fails),
-        Action::Return(k) => Deed::Serves(k, ServerEvent::Returns),
-        Action::Notice(k, j, says) => Deed::Serves(k, ServerEvent::Notices(j, says)),
-        Action::Discover(i) => Deed::Asks(i, ClientEvent::Discovers),
-        Action::Request(i, t) => Deed::Asks(i, ClientEvent::Requests(t)),
-        Action::Renew(i, t) => Deed::Asks(i, ClientEvent::Renews(t)),
-        Action::Deliver(_, _) => delivery(c, m),
-        Action::Lose(_) => Deed::Rests,
-        Action::Cleanup(k) => Deed::Serves(k, ServerEvent::CleansUp),
-        Action::Unknown => Deed::Rests,
-    }
-}
 
 // Server s is alive or not from true time t on; it sends nothing.
 fn with_life(s: Server, alive: bool, t: u32) -> ServerAnswer

@@ -4,8 +4,8 @@ use mathlib.Core.Bool.{Bool, true, false, not, cond}
 use mathlib.Core.List.{List, [], _∷_}
 use Prim.Native.Nat.{ℕ, zero, suc, _+_, _-_, _≤_, _<_}
 use native.Mathlib.Omega.{arith}
-use borrow.Author.Tests.{lt-ltb, le-leb, lt-leb}
-use lib.Dec.{T, leb, ltb, eqb, leb→le, ltb→lt, nltb→le}
+use borrow.Author.Tests.{lt-ltb, le-leb, lt-leb, eq-eqb, ne-eqb}
+use lib.Dec.{T, leb, ltb, eqb, leb→le, ltb→lt, nltb→le, eqb→eq}
 use lib.IntN.{ℤ}
 use lib.ListN.{getD, set}
 use Rattle.types.specs.declared.Server.{Server}
@@ -21,6 +21,7 @@ use Rattle.types.specs.declared.ClientEvent.{ClientEvent}
 use Rattle.types.specs.declared.ClientEvent.the-variants.{Discovers, Requests, Renews, Hears}
 use Rattle.types.specs.declared.Deed.{Deed}
 use Rattle.types.specs.declared.Deed.the-variants.{Rests, Passes, Serves, Asks}
+use Rattle.types.specs.declared.Decision.{Decision}
 use Rattle.types.specs.declared.ServerAnswer.{ServerAnswer}
 use Rattle.types.specs.declared.ClientAnswer.{ClientAnswer}
 use Rattle.types.specs.declared.Config.{Config}
@@ -35,15 +36,16 @@ use Rattle.rules.specs.Ranges.{inRange, isServer, messageInRange, Sound}
 use Rattle.rules.specs.Server.{noticed, cleaned}
 use Rattle.rules.specs.Client.{isHolding, isOffered}
 use Rattle.rules.specs.Views.{View, whole, atHand}
-use Rattle.rules.specs.Steps.{Action, pass, fail, return, notice, discover, request, renew, deliver, lose, cleanup, unknown, action, fieldsInRange, exists, stateAllows, ofPass, timeLeft, clockAllows, inTouch, ofNotice, isCredible, interactionLeft, malformed, barred, broken, accepted, refused, delivered, deed, position, takes, takenOut, serverAfter, noticesAfter, clientAfter, nextAfter, movedIn, ended, lapse, enacted, effect, step}
-use Rattle.rules.proofs.Laws.{and-l, and-r, cond-case, unless-ok}
+use Rattle.rules.specs.Steps.{Action, pass, fail, return, notice, discover, request, renew, deliver, lose, cleanup, unknown, action, fieldsInRange, exists, stateAllows, ofPass, timeLeft, clockAllows, inTouch, ofNotice, isCredible, interactionLeft, malformed, barred, broken, accepted, refused, delivered, deed, position, takes, takenOut, serverAfter, noticesAfter, clientAfter, nextAfter, movedIn, ended, lapse, unlessRefused, enacted, effect, step}
+use Rattle.rules.proofs.Laws.{and-l, and-r, cond-case, unless-ok, not-eqb}
 use Rattle.rules.proofs.Kept.{ranged}
 use Rattle.rules.proofs.Refusals.{refused-first, unless-full}
 use Rattle.rules.proofs.Delivery.{for-client}
 use Rattle.rules.proofs.Counts.{few-received, few-discovers, few-requests, few-renews, few-replied}
 use Rattle.world.specs.Apart.{facadeOf, livesOf, placeBelow}
 use Rattle.world.proofs.Laws.{place-named, sizes, waiting-high}
-use Rattle.cable.specs.Exchange.{restOf, exchanged}
+use Rattle.cable.specs.Exchange.{restOf, roomFor, exchanged}
+use Rattle.decisions.specs.Decided.{decided}
 use Rattle.deeds.specs.Deeds.{eventInRange, DeedInRange}
 use Rattle.facade.specs.Settled.{nextIn, noticesIn, waitingIn, settled, unlessFull}
 
@@ -171,7 +173,7 @@ module _ {w : World} {ss : List Server} {ys : List Client} {ms : List Message} {
 
   -- The number of the first rule that is broken: n, of the rules 4 to 12.
   module _ (n : ℕ) (e : n ≡ broken (atHand w l x) (action s) 0) where
-    pub is-refused : (n ≡ 0 → ⊥) → refused (facadeOf w ss ys ms) n ≡ step (facadeOf w ss ys ms) s
+    is-refused : (n ≡ 0 → ⊥) → refused (facadeOf w ss ys ms) n ≡ step (facadeOf w ss ys ms) s
     unfolding step
     is-refused = refused-first (facadeOf w ss ys ms) (action s) t n (e ∙ sym same-broken)
 
@@ -199,7 +201,7 @@ module _ {w : World} {ss : List Server} {ys : List Client} {ms : List Message} {
           refl refl refl refl refl refl refl refl refl refl refl
 
       -- what is taken out is there
-      pub taken-low : T (takes (action s)) → s .first < w .waiting
+      taken-low : T (takes (action s)) → s .first < w .waiting
       unfolding takes exists
       taken-low =
           kinds s (λ a. broken (atHand w l x) a 0 ≡ 0 → T (takes a) → s .first < w .waiting)
@@ -220,7 +222,7 @@ module _ {w : World} {ss : List Server} {ys : List Client} {ms : List Message} {
           (λ b. omega (arith, nltb→le (m .receiver) (w .config .servers) b, for-client (w .config) (m .sender) (m .receiver) (m .body) (and-r _ _ good) b))
 
       -- what happens is in range
-      pub fits : DeedInRange w (deed (w .config) m (action s))
+      fits : DeedInRange w (deed (w .config) m (action s))
       unfolding deed DeedInRange eventInRange exists ofPass timeLeft fieldsInRange
       fits =
           kinds s (λ a. broken (atHand w l x) a 0 ≡ 0 → DeedInRange w (deed (w .config) m a))
@@ -239,10 +241,49 @@ module _ {w : World} {ss : List Server} {ys : List Client} {ms : List Message} {
           none
 
       -- what happens, unless the cable is full, is the answer to the step
-      pub is-done : {taken : Bool} {d : Deed} → taken ≡ takes (action s) → d ≡ deed (w .config) m (action s)
+      is-done : {taken : Bool} {d : Deed} → taken ≡ takes (action s) → d ≡ deed (w .config) m (action s)
           → unlessFull (facadeOf w ss ys ms) (enacted (withoutIf (facadeOf w ss ys ms) (s .first) taken) d) ≡ step (facadeOf w ss ys ms) s
       unfolding step effect unlessFull
       is-done p q = rw (p, q, ← same-taken, ← same-deed) (unless-full (facadeOf w ss ys ms) (action s) t (same-broken ∙ none))
+
+  -- What is decided of the step, and what comes of it.
+  module _ {d : Decision} (e : d ≡ decided (atHand w l x) m (action s)) where
+    -- what happens is in range
+    pub decided-fits : DeedInRange w (d .happens)
+    unfolding decided DeedInRange
+    decided-fits =
+        rw e (cond-case (λ (z : Decision). DeedInRange w (z .happens)) (eqb (broken (atHand w l x) (action s) 0) 0) _ _
+        (λ t. fits _ refl (eqb→eq _ _ t)) (λ t. tt))
+
+    -- what is taken out is there
+    pub decided-there : T (d .taken) → s .first < w .waiting
+    unfolding decided
+    decided-there =
+        rw e (cond-case (λ (z : Decision). T (z .taken) → s .first < w .waiting) (eqb (broken (atHand w l x) (action s) 0) 0) _ _
+        (λ t. taken-low _ refl (eqb→eq _ _ t)) (λ t b. absurd b))
+
+    -- in a refused step no message is taken out, and nothing happens
+    pub refused-rests : (d .refusal ≡ 0 → ⊥) → (d .taken ≡ false) × (d .happens ≡ Rests)
+    unfolding decided
+    refused-rests =
+        rw e (cond-case (λ (z : Decision). (z .refusal ≡ 0 → ⊥) → (z .taken ≡ false) × (z .happens ≡ Rests)) (eqb (broken (atHand w l x) (action s) 0) 0) _ _
+        (λ t b. absurd (b refl)) (λ t b. (refl, refl)))
+
+    -- the answer is the refusal, or what happens unless the cable is full
+    pub is-decided : unlessRefused (facadeOf w ss ys ms) (d .refusal) (unlessFull (facadeOf w ss ys ms) (enacted (withoutIf (facadeOf w ss ys ms) (s .first) (d .taken)) (d .happens)))
+        ≡ step (facadeOf w ss ys ms) s
+    unfolding decided
+    is-decided =
+        let f = facadeOf w ss ys ms in
+        rw e (cond-case (λ (z : Decision). unlessRefused f (z .refusal) (unlessFull f (enacted (withoutIf f (s .first) (z .taken)) (z .happens))) ≡ step f s) (eqb (broken (atHand w l x) (action s) 0) 0) _ _
+        (λ t. is-done _ refl (eqb→eq _ _ t) refl refl)
+        (λ t. rw (ne-eqb (broken (atHand w l x) (action s) 0) 0 (not-eqb _ _ t)) (is-refused _ refl (not-eqb _ _ t))))
+
+    pub is-refused-so : (d .refusal ≡ 0 → ⊥) → refused (facadeOf w ss ys ms) (d .refusal) ≡ step (facadeOf w ss ys ms) s
+    is-refused-so h = rw (ne-eqb (d .refusal) 0 h) at is-decided
+
+    pub is-done-so : d .refusal ≡ 0 → unlessFull (facadeOf w ss ys ms) (enacted (withoutIf (facadeOf w ss ys ms) (s .first) (d .taken)) (d .happens)) ≡ step (facadeOf w ss ys ms) s
+    is-done-so h = rw (eq-eqb (d .refusal) 0 h) at is-decided
 
 none-more : (n : ℕ) → n + 0 ≡ n
 none-more n = omega arith
@@ -294,24 +335,23 @@ few-asked c few n i r x (Renews t) = few-renews c i few x t n
 few-asked c few n i r x (Hears m) = few-replied r x m
 
 -- The last test, on what is put together.
-module _ (f : Facade) (w : World) (ss : List Server) (ys : List Client) (p : ℕ) (b : Bool) (o : Outbox) (n : ℕ) (e : w .waiting ≡ f .waiting) (rest : ℕ) (q : rest ≡ restOf (f .waiting) b) where
-  pub settles-full : 128 < rest + o .count → refused f 13 ≡ unlessFull f (settled w ss ys (f .messages) p b o n)
+module _ (f : Facade) (w : World) (ss : List Server) (ys : List Client) (p : ℕ) (b : Bool) (o : Outbox) (n : ℕ) (e : w .waiting ≡ f .waiting) {room : Bool} (q : room ≡ roomFor (f .waiting) b (o .count)) where
+  pub settles-full : room ≡ false → refused f 13 ≡ unlessFull f (settled w ss ys (f .messages) p b o n)
   unfolding unlessFull unless
-  settles-full h = rw (e, ← q, lt-leb (rest + o .count) 128 h)
+  settles-full h = rw (e, ← q, h)
 
-  pub settles : rest + o .count ≤ 128 → {g : Facade} → g ≡ facadeOf (waitingIn w (rest + o .count)) ss ys (exchanged (f .messages) p (f .waiting) b o)
+  pub settles : room ≡ true → {rest : ℕ} → rest ≡ restOf (f .waiting) b → {g : Facade} → g ≡ facadeOf (waitingIn w (rest + o .count)) ss ys (exchanged (f .messages) p (f .waiting) b o)
       → accepted g n ≡ unlessFull f (settled w ss ys (f .messages) p b o n)
   unfolding unlessFull unless
-  settles h d = rw (d, e, ← q, le-leb (rest + o .count) 128 h)
+  settles h r d = rw (d, e, ← q, h, r)
 
 -- A step of which no rule is broken but perhaps the last, by what happens.
 module _ {w : World} {ss : List Server} {ys : List Client} {ms : List Message} {s : Step} {l : Lives} {m : Message} {x : State} (h : Hand w ss ys ms s l m x)
-    {n : ℕ} (e : n ≡ broken (atHand w l x) (action s) 0) (z : n ≡ 0) {taken : Bool} (p : taken ≡ takes (action s)) {d : Deed} (q : d ≡ deed (w .config) m (action s))
-    {a : Answer} (i : enacted (out w ss ys ms (s .first) taken) d ≡ a) where
+    {d : Decision} (e : d ≡ decided (atHand w l x) m (action s)) (z : d .refusal ≡ 0) {a : Answer} (i : enacted (out w ss ys ms (s .first) (d .taken)) (d .happens) ≡ a) where
   pub left-out : 128 < a .facade .waiting → refused (facadeOf w ss ys ms) 13 ≡ step (facadeOf w ss ys ms) s
   unfolding unlessFull unless
-  left-out u = (rw (i, lt-leb (a .facade .waiting) 128 u) at (is-done h n e z p q))
+  left-out u = (rw (i, lt-leb (a .facade .waiting) 128 u) at (is-done-so h e z))
 
   pub put-in : a .facade .waiting ≤ 128 → a ≡ step (facadeOf w ss ys ms) s
   unfolding unlessFull unless
-  put-in u = (rw (i, le-leb (a .facade .waiting) 128 u) at (is-done h n e z p q))
+  put-in u = (rw (i, le-leb (a .facade .waiting) 128 u) at (is-done-so h e z))

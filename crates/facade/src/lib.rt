@@ -2,20 +2,19 @@
 use arith::both;
 use arith::reading;
 use cable::exchange;
+use cable::has_room;
 use cable::rest_of;
 use client::is_holding;
 use clocks::end_holds;
 use clocks::move_on;
+use decisions::decided;
 use deeds::client_after;
-use deeds::deed_of;
 use deeds::next_after;
 use deeds::notices_after;
 use deeds::server_after;
-use deeds::takes_out;
 use outbox::nothing;
 use ranges::config_in_range;
 use ranges::facade_in_range;
-use refusals::first_broken;
 use steps::action_of;
 use steps::malformed;
 use types::Answer;
@@ -111,20 +110,19 @@ fn settle(
     requires { ⌜ (f .waiting ≤ 128) × (w .waiting ≡ f .waiting) × (sent .count ≤ 4) × (T taken → p < f .waiting) ⌝ }
     ensures { λ r. ⌜ r ≡ unlessFull f (settled w ss ys (f .messages) p taken sent outcome) ⌝ }
 {
-    let after = rest_of(f.waiting, taken) + sent.count;
-    if 128 < after {
-        return refuse(f, 13);
+    if has_room(f.waiting, taken, sent.count) {
+        let ms = f.messages;
+        let rest = exchange(ms, p, f.waiting, taken, sent);
+        let mut g = w;
+        g.waiting = rest_of(f.waiting, taken) + sent.count;
+        let h = facade_of(g, ss, ys, rest);
+        return Answer {
+            refusal: 0,
+            outcome: outcome,
+            facade: h,
+        };
     }
-    let ms = f.messages;
-    let rest = exchange(ms, p, f.waiting, taken, sent);
-    let mut g = w;
-    g.waiting = after;
-    let h = facade_of(g, ss, ys, rest);
-    Answer {
-        refusal: 0,
-        outcome: outcome,
-        facade: h,
-    }
+    refuse(f, 13)
 }
 
 // An event of server k.
@@ -202,11 +200,12 @@ fn step_in_range(f: Facade, s: Step) -> Answer
     let y = f.clients[near];
     let state = y.state;
     let ss = f.servers;
-    let n = first_broken(malformed(x), world_of(f), lives_of(ss), state, x);
-    if n != 0 {
-        return refuse(f, n);
+    let d = decided(malformed(x), world_of(f), lives_of(ss), state, m, x);
+    if d.refusal != 0 {
+        return refuse(f, d.refusal);
     }
-    enact(f, s.first, takes_out(x), deed_of(f.config, m, x))
+    let happens = d.happens;
+    enact(f, s.first, d.taken, happens)
 }
 
 // The answer to a step, for every facade, kind number and fields.

@@ -196,6 +196,14 @@ pub enum Deed {
     Asks(u32, ClientEvent),
 }
 
+// What the rules 4 to 12 say of a step: the number of the first that it breaks, or 0; whether the message that it names is taken
+// out; and what happens. In a refused step no message is taken out, and nothing happens.
+pub struct Decision {
+    pub refusal: u32,
+    pub taken: bool,
+    pub happens: Deed,
+}
+
 // The answer to a step: the refusal or 0, the outcome (0 where refused), and the facade.
 pub struct Answer {
     pub refusal: u32,

@@ -6,40 +6,44 @@ use borrow.Author.Needs.{needs}
 use Rattle.facade.proofs.settle.Statement.{statement}
 use Rattle.facade.proofs.settle.Tie as tie
 
-rest-of-requires : tie.Need-rest-of-requires
-rest-of-requires c κs = λ t. omega (arith, c .pre .3 t)
-
-add-after : tie.Need-add-after
-add-after c = omega (arith, c .before .rest-of .ensures, rest-high (c .before .before .args .f .waiting) (c .before .before .args .taken), c .before .before .pre .0, c .before .before .pre .2)
-
-refuse-requires : tie.Need-refuse-requires
-refuse-requires c κs = search needs
-
-returns : tie.Need-returns
-returns c =
-    let start = c .before .before .before .before in
-    c .refuse .ensures ∙ settles-full (start .args .f) (start .args .w) (start .args .ss) (start .args .ys) (start .args .p) (start .args .taken) (start .args .sent) (start .args .outcome) (c .before .before .before .before .pre .1) _ (c .before .before .before .rest-of .ensures) (c .before .if1 .taken)
+has-room-requires : tie.Need-has-room-requires
+has-room-requires c κs = (c .pre .0, c .pre .2, λ t. omega (arith, c .pre .3 t))
 
 exchange-requires : tie.Need-exchange-requires
-exchange-requires c κs = let start = c .before .before .before .before in
+exchange-requires c κs = let start = c .before .before .before in
     (start .pre .0, start .pre .2, start .pre .3)
+
+rest-of-requires : tie.Need-rest-of-requires
+rest-of-requires c κs = λ t. omega (arith, c .before .before .before .before .pre .3 t)
+
+add-g : tie.Need-add-g
+add-g c = omega (arith, c .before .rest-of .ensures, rest-high (c .before .before .before .before .before .before .args .f .waiting) (c .before .before .before .before .before .before .args .taken), c .before .before .before .before .before .before .pre .0, c .before .before .before .before .before .before .pre .2)
 
 facade-of-requires : tie.Need-facade-of-requires
 facade-of-requires c κs = search needs
 
+returns : tie.Need-returns
+returns c =
+    let start = c .before .before .before .before .before .before .before in
+    settles (start .args .f) (start .args .w) (start .args .ss) (start .args .ys) (start .args .p) (start .args .taken) (start .args .sent) (start .args .outcome) (start .pre .1) (c .before .before .before .before .before .before .has-room .ensures) (c .before .before .before .before .before .if1 .taken) (c .before .before .rest-of .ensures) (rw (← c .before .before .before .exchange .ensures) (c .facade-of .ensures))
+
+refuse-requires : tie.Need-refuse-requires
+refuse-requires c κs = search needs
+
 returns-2 : tie.Need-returns-2
 returns-2 c =
-    let start = c .before .before .before .before .before .before in
-    settles (start .args .f) (start .args .w) (start .args .ss) (start .args .ys) (start .args .p) (start .args .taken) (start .args .sent) (start .args .outcome) (start .pre .1) _ (c .before .before .before .before .before .rest-of .ensures) (c .before .before .before .if1 .left) (rw (← c .before .exchange .ensures) (c .facade-of .ensures))
+    let start = c .before .before .before in
+    c .refuse .ensures ∙ settles-full (start .args .f) (start .args .w) (start .args .ss) (start .args .ys) (start .args .p) (start .args .taken) (start .args .sent) (start .args .outcome) (start .pre .1) (c .before .before .has-room .ensures) (c .before .if1 .left)
 
 pub settle-spec : {M : Type 1} → statement M
 settle-spec =
     tie.close
     (tie.spec
-    rest-of-requires
-    add-after
-    refuse-requires
-    returns
+    has-room-requires
     exchange-requires
+    rest-of-requires
+    add-g
     facade-of-requires
+    returns
+    refuse-requires
     returns-2)

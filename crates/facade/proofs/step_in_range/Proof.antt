@@ -5,9 +5,10 @@ use lib.ListN.{length, getD}
 use Rattle.outbox.proofs.Laws.{length-mapped}
 use Rattle.rules.specs.Parts.{noClient, noMessage}
 use Rattle.rules.specs.Views.{worldOf, atHand}
-use Rattle.rules.specs.Steps.{action, broken}
+use Rattle.rules.specs.Steps.{action}
 use Rattle.world.proofs.Laws.{place-low}
-use Rattle.facade.proofs.Laws.{Hand, is-refused, fits, taken-low, is-done}
+use Rattle.decisions.specs.Decided.{decided}
+use Rattle.facade.proofs.Laws.{Hand, decided-fits, decided-there, is-refused-so, is-done-so}
 use borrow.Author.Needs.{needs}
 use Rattle.facade.proofs.step_in_range.Statement.{statement}
 use Rattle.facade.proofs.step_in_range.Tie as tie
@@ -16,21 +17,22 @@ long : (c : tie.Start) → length (c .args .t1 .messages) ≡ 128
 long c = search (length-mapped, needs)
 
 -- what is at hand
-hand : (c : tie.After-first-broken)
-    → let f = c .before .before .before .before .before .before .before .before .before .before .args .t1 in
-    Hand (worldOf f) (f .servers) (f .clients) (f .messages) (c .before .before .before .before .before .before .before .before .before .before .args .s) (c .before .lives-of .result) (getD (f .messages) (c .before .before .before .before .before .before .before .before .place-below .result) noMessage) ((getD (f .clients) (c .before .before .before .before .before .before .place-below2 .result) noClient) .state)
+hand : (c : tie.After-lives-of)
+    → let f = c .before .before .before .before .before .before .before .before .before .args .t1 in
+    Hand (worldOf f) (f .servers) (f .clients) (f .messages) (c .before .before .before .before .before .before .before .before .before .args .s) (c .lives-of .result) (getD (f .messages) (c .before .before .before .before .before .before .before .place-below .result) noMessage) ((getD (f .clients) (c .before .before .before .before .before .place-below2 .result) noClient) .state)
 hand c =
-    let f = c .before .before .before .before .before .before .before .before .before .before .args .t1 in
+    let f = c .before .before .before .before .before .before .before .before .before .args .t1 in
     record {
-      sound = (c .before .before .before .before .before .before .before .before .before .before .pre, long (c .before .before .before .before .before .before .before .before .before .before));
-      lives = c .before .lives-of .ensures;
-      message = ap (λ (j : ℕ). getD (f .messages) j noMessage) (c .before .before .before .before .before .before .before .before .place-below .ensures);
-      state = ap (λ (j : ℕ). (getD (f .clients) j noClient) .state) (c .before .before .before .before .before .before .place-below2 .ensures);
+      sound = (c .before .before .before .before .before .before .before .before .before .pre, long (c .before .before .before .before .before .before .before .before .before));
+      lives = c .lives-of .ensures;
+      message = ap (λ (j : ℕ). getD (f .messages) j noMessage) (c .before .before .before .before .before .before .before .place-below .ensures);
+      state = ap (λ (j : ℕ). (getD (f .clients) j noClient) .state) (c .before .before .before .before .before .place-below2 .ensures);
     }
 
-broken-is : (c : tie.After-first-broken)
-    → c .first-broken .result ≡ broken (atHand (worldOf (c .before .before .before .before .before .before .before .before .before .before .args .t1)) (c .before .lives-of .result) ((getD (c .before .before .before .before .before .before .before .before .before .before .args .t1 .clients) (c .before .before .before .before .before .before .place-below2 .result) noClient) .state)) (action (c .before .before .before .before .before .before .before .before .before .before .args .s)) 0
-broken-is c = rw (← c .before .before .world-of .ensures, ← c .before .before .before .before .before .before .before .before .before .action-of .ensures) (c .first-broken .ensures)
+-- what is decided
+decided-is : (c : tie.After-decided)
+    → c .decided .result ≡ decided (atHand (worldOf (c .before .before .before .before .before .before .before .before .before .before .args .t1)) (c .before .lives-of .result) ((getD (c .before .before .before .before .before .before .before .before .before .before .args .t1 .clients) (c .before .before .before .before .before .before .place-below2 .result) noClient) .state)) (getD (c .before .before .before .before .before .before .before .before .before .before .args .t1 .messages) (c .before .before .before .before .before .before .before .before .place-below .result) noMessage) (action (c .before .before .before .before .before .before .before .before .before .before .args .s))
+decided-is c = rw (← c .before .before .world-of .ensures, ← c .before .before .before .before .before .before .before .before .before .action-of .ensures) (c .decided .ensures)
 
 action-of-requires : tie.Need-action-of-requires
 action-of-requires c κs = search needs
@@ -62,8 +64,8 @@ world-of-requires c κs = search needs
 lives-of-requires : tie.Need-lives-of-requires
 lives-of-requires c κs = search needs
 
-first-broken-requires : tie.Need-first-broken-requires
-first-broken-requires c κs =
+decided-requires : tie.Need-decided-requires
+decided-requires c κs =
     let start = c .before .before .before .before .before .before .before .before .before in
     let f = start .args .t1 in
     (record { servers = f .servers; clients = f .clients; messages = f .messages; sound = rw (c .before .world-of .ensures) (start .pre, long start) }, c .before .before .malformed .ensures)
@@ -72,24 +74,13 @@ refuse-requires : tie.Need-refuse-requires
 refuse-requires c κs = search needs
 
 returns : tie.Need-returns
-returns c = let at = c .before .before in
-    c .refuse .ensures ∙ is-refused (hand at) _ (broken-is at) (c .before .if1 .taken)
-
-takes-out-requires : tie.Need-takes-out-requires
-takes-out-requires c κs = search needs
-
-deed-of-requires : tie.Need-deed-of-requires
-deed-of-requires c κs = search needs
+returns c = c .refuse .ensures ∙ is-refused-so (hand (c .before .before .before .before)) (decided-is (c .before .before .before)) (c .before .if1 .taken)
 
 enact-requires : tie.Need-enact-requires
-enact-requires c κs = let at = c .before .before .before .before in
-    let start = c .before .before .before .before .before .before .before .before .before .before .before .before .before .before in
-    let zero = c .before .before .before .if1 .left in
-    (start .pre, rw (c .deed-of .ensures, c .before .before .before .before .before .before .before .before .before .before .before .before .before .action-of .ensures) (fits (hand at) _ (broken-is at) zero), rw (c .before .before .takes-out .ensures, c .before .before .before .before .before .before .before .before .before .before .before .before .before .action-of .ensures) (taken-low (hand at) _ (broken-is at) zero))
+enact-requires c κs = (c .before .before .before .before .before .before .before .before .before .before .before .before .pre, decided-fits (hand (c .before .before .before)) (decided-is (c .before .before)), decided-there (hand (c .before .before .before)) (decided-is (c .before .before)))
 
 returns-2 : tie.Need-returns-2
-returns-2 c = let at = c .before .before .before .before .before in
-    c .enact .ensures ∙ is-done (hand at) _ (broken-is at) (c .before .before .before .before .if1 .left) (rw (c .before .before .before .before .before .before .before .before .before .before .before .before .before .before .action-of .ensures) at (c .before .before .before .takes-out .ensures)) (rw (c .before .before .before .before .before .before .before .before .before .before .before .before .before .before .action-of .ensures) at (c .before .deed-of .ensures))
+returns-2 c = c .enact .ensures ∙ is-done-so (hand (c .before .before .before .before)) (decided-is (c .before .before .before)) (c .before .if1 .left)
 
 pub step-in-range-spec : {M : Type 1} → statement M
 step-in-range-spec =
@@ -105,10 +96,8 @@ step-in-range-spec =
     malformed-requires
     world-of-requires
     lives-of-requires
-    first-broken-requires
+    decided-requires
     refuse-requires
     returns
-    takes-out-requires
-    deed-of-requires
     enact-requires
     returns-2)

@@ -1,5 +1,5 @@
-// The first of the rules 4 to 12 that a step breaks, by what the rules look at: w is the world, l the lives of the servers, x the
-// state of the client that the step names.
+// What the rules 4 to 12 decide of a step, by what they look at: w is the world, l the lives of the servers, x the state of the
+// client that the step names.
 use arith::both;
 use arith::unless;
 use client::is_holding;
@@ -8,8 +8,13 @@ use clocks::does_clock_allow;
 use clocks::is_credible_notice;
 use clocks::is_in_touch;
 use types::Action;
+use types::ClientEvent;
 use types::Config;
+use types::Decision;
+use types::Deed;
 use types::Lives;
+use types::Message;
+use types::ServerEvent;
 use types::State;
 use types::World;
 ghost use mathlib.Core.Path.{_≡_};
@@ -20,8 +25,9 @@ ghost use Rattle.types.specs.declared.State.the-variants.{Idle};
 ghost use Rattle.rules.specs.Conditions.{unless as unlessOk};
 ghost use Rattle.rules.specs.Ranges.{isServer};
 ghost use Rattle.rules.specs.Views.{atHand};
-ghost use Rattle.rules.specs.Steps.{pass, notice, malformed, barred, broken};
+ghost use Rattle.rules.specs.Steps.{pass, notice, malformed, barred, broken, takes, delivered, deed};
 ghost use Rattle.world.specs.Apart.{WorldInRange};
+ghost use Rattle.decisions.specs.Decided.{decided as decidedOf};
 
 // Whether server k is alive; one that does not exist is not.
 fn is_alive(l: Lives, k: u32) -> bool
@@ -94,7 +100,7 @@ fn pass_barred(w: World, l: Lives, d: u32, p: u32, e: i32) -> u32
 }
 
 // The number of the first rule that is broken, or 0; n is that of the rules 4 and 5, which the step alone can break.
-pub fn first_broken(n: u32, w: World, l: Lives, x: State, a: Action) -> u32
+fn first_broken(n: u32, w: World, l: Lives, x: State, a: Action) -> u32
     requires { ⌜ WorldInRange w × (n ≡ malformed a 0) ⌝ }
     ensures { λ r. ⌜ r ≡ broken (atHand w l x) a 0 ⌝ }
 {
@@ -114,5 +120,75 @@ pub fn first_broken(n: u32, w: World, l: Lives, x: State, a: Action) -> u32
         Action::Lose(p) => unless(p < w.waiting, 6, 0),
         Action::Cleanup(k) => server_barred(c, k, is_alive(l, k)),
         Action::Unknown => 4,
+    }
+}
+
+// Whether the message that the step names is taken out.
+fn takes_out(x: Action) -> bool
+    ensures { λ r. ⌜ r ≡ takes x ⌝ }
+{
+    match x {
+        Action::Pass(_, _, _) => false,
+        Action::Fail(_) => false,
+        Action::Return(_) => false,
+        Action::Notice(_, _, _) => false,
+        Action::Discover(_) => false,
+        Action::Request(_, _) => false,
+        Action::Renew(_, _) => false,
+        Action::Deliver(_, keep) => keep == 0,
+        Action::Lose(_) => true,
+        Action::Cleanup(_) => false,
+        Action::Unknown => false,
+    }
+}
+
+// A message is handled by the party that it is for.
+fn delivery(c: Config, m: Message) -> Deed
+    ensures { λ d. ⌜ d ≡ delivered c m ⌝ }
+{
+    let to = m.receiver;
+    if to < c.servers {
+        return Deed::Serves(to, ServerEvent::Receives(m));
+    }
+    Deed::Asks(to - c.servers, ClientEvent::Hears(m))
+}
+
+// What happens in a step, where m is the message at the position that it names.
+fn deed_of(c: Config, m: Message, x: Action) -> Deed
+    ensures { λ d. ⌜ d ≡ deed c m x ⌝ }
+{
+    match x {
+        Action::Pass(d, p, e) => Deed::Passes(d, p, e),
+        Action::Fail(k) => Deed::Serves(k, ServerEvent::Fails),
+        Action::Return(k) => Deed::Serves(k, ServerEvent::Returns),
+        Action::Notice(k, j, says) => Deed::Serves(k, ServerEvent::Notices(j, says)),
+        Action::Discover(i) => Deed::Asks(i, ClientEvent::Discovers),
+        Action::Request(i, t) => Deed::Asks(i, ClientEvent::Requests(t)),
+        Action::Renew(i, t) => Deed::Asks(i, ClientEvent::Renews(t)),
+        Action::Deliver(_, _) => delivery(c, m),
+        Action::Lose(_) => Deed::Rests,
+        Action::Cleanup(k) => Deed::Serves(k, ServerEvent::CleansUp),
+        Action::Unknown => Deed::Rests,
+    }
+}
+
+// What is decided of step a, where n is the number of the rules 4 and 5 and m the message at the position that it names.
+pub fn decided(n: u32, w: World, l: Lives, x: State, m: Message, a: Action) -> Decision
+    requires { ⌜ WorldInRange w × (n ≡ malformed a 0) ⌝ }
+    ensures { λ r. ⌜ r ≡ decidedOf (atHand w l x) m a ⌝ }
+{
+    let first = first_broken(n, w, l, x, a);
+    if first != 0 {
+        return Decision {
+            refusal: first,
+            taken: false,
+            happens: Deed::Rests,
+        };
+    }
+    let happens = deed_of(w.config, m, a);
+    Decision {
+        refusal: 0,
+        taken: takes_out(a),
+        happens: happens,
     }
 }

@@ -1,7 +1,7 @@
 use Rattle.rules.specs.Steps.{takes}
 use borrow.Author.Needs.{needs}
-use Rattle.deeds.proofs.takes_out.Statement.{statement}
-use Rattle.deeds.proofs.takes_out.Tie as tie
+use Rattle.decisions.proofs.takes_out.Statement.{statement}
+use Rattle.decisions.proofs.takes_out.Tie as tie
 
 enum-told : tie.Need-enum-told
 enum-told c = search needs

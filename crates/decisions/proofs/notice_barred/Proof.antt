@@ -1,8 +1,8 @@
 use Rattle.types.specs.declared.State.the-variants.{Idle}
-use Rattle.refusals.proofs.Laws.{notice-barred}
+use Rattle.decisions.proofs.Laws.{notice-barred}
 use borrow.Author.Needs.{needs}
-use Rattle.refusals.proofs.notice_barred.Statement.{statement}
-use Rattle.refusals.proofs.notice_barred.Tie as tie
+use Rattle.decisions.proofs.notice_barred.Statement.{statement}
+use Rattle.decisions.proofs.notice_barred.Tie as tie
 
 both-requires : tie.Need-both-requires
 both-requires c κs = search needs

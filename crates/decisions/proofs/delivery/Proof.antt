@@ -1,8 +1,8 @@
 use mathlib.Core.Path.{refl}
 use borrow.Author.Tests.{lt-ltb, le-ltb}
 use Rattle.rules.specs.Steps.{delivered}
-use Rattle.deeds.proofs.delivery.Statement.{statement}
-use Rattle.deeds.proofs.delivery.Tie as tie
+use Rattle.decisions.proofs.delivery.Statement.{statement}
+use Rattle.decisions.proofs.delivery.Tie as tie
 
 returns : tie.Need-returns
 unfolding delivered

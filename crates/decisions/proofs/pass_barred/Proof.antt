@@ -11,10 +11,10 @@ use borrow.Author.Tests.{not-true, not-false}
 use Rattle.types.specs.declared.State.the-variants.{Idle}
 use Rattle.rules.specs.Parts.{offsetOf}
 use Rattle.rules.specs.Steps.{offsetAllows}
-use Rattle.refusals.proofs.Laws.{holds, fails, pass-fields, pass-6, pass-8, pass-9, pass-10, pass-kept}
+use Rattle.decisions.proofs.Laws.{holds, fails, pass-fields, pass-6, pass-8, pass-9, pass-10, pass-kept}
 use borrow.Author.Needs.{needs}
-use Rattle.refusals.proofs.pass_barred.Statement.{statement}
-use Rattle.refusals.proofs.pass_barred.Tie as tie
+use Rattle.decisions.proofs.pass_barred.Statement.{statement}
+use Rattle.decisions.proofs.pass_barred.Tie as tie
 
 -- the numbers that the code read
 allows : (c : tie.Start) → SFits w32 (offsetOf (c .args .t1 .offsets) (c .args .p)) → {r : Bool} → r ≡ offsetAllows (c .args .t1 .config) (toZ w32 (ofZ w32 (offsetOf (c .args .t1 .offsets) (c .args .p)))) (c .args .d) (toZ w32 (ofZ w32 (c .args .e)))

@@ -3,8 +3,8 @@ use mir.Val.{SFits}
 use mir.Facts.{toZ-ofZ}
 use Rattle.rules.specs.Steps.{deed}
 use borrow.Author.Needs.{needs}
-use Rattle.deeds.proofs.deed_of.Statement.{statement}
-use Rattle.deeds.proofs.deed_of.Tie as tie
+use Rattle.decisions.proofs.deed_of.Statement.{statement}
+use Rattle.decisions.proofs.deed_of.Tie as tie
 
 enum-known-x : tie.Need-enum-known-x
 enum-known-x c = search needs

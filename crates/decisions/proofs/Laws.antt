@@ -1,21 +1,25 @@
--- Laws of the rules 4 to 12.
+-- Laws of the rules 4 to 12, and of what they decide.
 use mathlib.Core.Path.{_≡_, sym, _∙_}
 use mathlib.Core.Bool.{Bool, true, false, not}
 use Prim.Native.Nat.{ℕ, _+_, _≤_, _<_}
 use native.Mathlib.Omega.{arith}
-use borrow.Author.Tests.{lt-ltb, le-ltb, le-leb, lt-leb, not-true, not-false}
+use borrow.Author.Tests.{lt-ltb, le-ltb, le-leb, lt-leb, eq-eqb, ne-eqb, not-true, not-false}
 use lib.Dec.{ltb, eqb, leb→le}
 use lib.IntN.{ℤ, natAbs}
 use lib.ListN.{getD}
 use Rattle.types.specs.declared.State.{State}
+use Rattle.types.specs.declared.Message.{Message}
+use Rattle.types.specs.declared.Deed.{Deed}
+use Rattle.types.specs.declared.Deed.the-variants.{Rests}
 use Rattle.types.specs.declared.World.{World}
 use Rattle.types.specs.declared.Lives.{Lives}
 use Rattle.rules.specs.Conditions.{_and_, within, unless, all}
 use Rattle.rules.specs.Parts.{parties}
 use Rattle.rules.specs.Parts.{offsetOf}
-use Rattle.rules.specs.Views.{atHand}
-use Rattle.rules.specs.Steps.{pass, notice, isKnown, fieldsInRange, exists, stateAllows, ofPass, timeLeft, offsetAllows, clockAllows, isInTouch, inTouch, isSo, ofNotice, isCredible, interactionLeft, malformed, barred}
+use Rattle.rules.specs.Views.{View, atHand}
+use Rattle.rules.specs.Steps.{Action, pass, notice, isKnown, fieldsInRange, exists, stateAllows, ofPass, timeLeft, offsetAllows, clockAllows, isInTouch, inTouch, isSo, ofNotice, isCredible, interactionLeft, malformed, barred, broken, deed, takes}
 use Rattle.rules.proofs.Laws.{and-l, and-r, within-high, unless-ok}
+use Rattle.decisions.specs.Decided.{decided}
 
 -- the fields of a pass that keeps rule 5
 pub pass-fields : (d p : ℕ) (e : ℤ) → malformed (pass d p e) 0 ≡ 0 → (d ≤ 100000) × (natAbs e ≤ 2000)
@@ -64,3 +68,14 @@ holds e h = sym e ∙ not-false _ h
 
 pub fails : {b r : Bool} → r ≡ b → not r ≡ true → b ≡ false
 fails e h = sym e ∙ not-true _ h
+
+-- what is decided of step x, where n is the number of the first rule that is broken
+module _ (v : View) (m : Message) (x : Action) {n : ℕ} (e : n ≡ broken v x 0) where
+  pub decided-refused : (n ≡ 0 → ⊥) → record { refusal = n; taken = false; happens = Rests } ≡ decided v m x
+  unfolding decided
+  decided-refused h = rw (← e, ne-eqb n 0 h)
+
+  pub decided-kept : n ≡ 0 → {taken : Bool} {d : Deed} → taken ≡ takes x → d ≡ deed (v .world .config) m x
+      → record { refusal = 0; taken = taken; happens = d } ≡ decided v m x
+  unfolding decided
+  decided-kept h t q = rw (← e, eq-eqb n 0 h, t, q)

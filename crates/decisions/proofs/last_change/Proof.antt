@@ -2,8 +2,8 @@ use mathlib.Core.Path.{_≡_, sym}
 use native.Mathlib.Omega.{arith}
 use lib.ListN.{length, List·getD-eq-default}
 use borrow.Author.Needs.{needs}
-use Rattle.refusals.proofs.last_change.Statement.{statement}
-use Rattle.refusals.proofs.last_change.Tie as tie
+use Rattle.decisions.proofs.last_change.Statement.{statement}
+use Rattle.decisions.proofs.last_change.Tie as tie
 
 mul-result : tie.Need-mul-result
 mul-result c = search needs

@@ -6,8 +6,8 @@ use Rattle.rules.specs.Conditions.{unless}
 use Rattle.rules.specs.Steps.{isKnown, exists, stateAllows, ofPass, timeLeft, clockAllows, inTouch, ofNotice, isCredible, interactionLeft, malformed, barred, broken}
 use Rattle.rules.proofs.Refusals.{first-malformed, then-barred}
 use borrow.Author.Needs.{needs}
-use Rattle.refusals.proofs.first_broken.Statement.{statement}
-use Rattle.refusals.proofs.first_broken.Tie as tie
+use Rattle.decisions.proofs.first_broken.Statement.{statement}
+use Rattle.decisions.proofs.first_broken.Tie as tie
 
 returns : tie.Need-returns
 returns c = first-malformed _ _ _ (c .before .pre .1) (c .if1 .taken)

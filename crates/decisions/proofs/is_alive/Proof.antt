@@ -3,8 +3,8 @@ use mathlib.Core.Bool.{false}
 use native.Mathlib.Omega.{arith}
 use lib.ListN.{length, List·getD-eq-default}
 use borrow.Author.Needs.{needs}
-use Rattle.refusals.proofs.is_alive.Statement.{statement}
-use Rattle.refusals.proofs.is_alive.Tie as tie
+use Rattle.decisions.proofs.is_alive.Statement.{statement}
+use Rattle.decisions.proofs.is_alive.Tie as tie
 
 element-copy-out-result : tie.Need-element-copy-out-result
 element-copy-out-result c = search needs

@@ -1,6 +1,6 @@
 use borrow.Author.Needs.{needs}
-use Rattle.refusals.proofs.client_barred.Statement.{statement}
-use Rattle.refusals.proofs.client_barred.Tie as tie
+use Rattle.decisions.proofs.client_barred.Statement.{statement}
+use Rattle.decisions.proofs.client_barred.Tie as tie
 
 unless-requires : tie.Need-unless-requires
 unless-requires c κs = search needs
