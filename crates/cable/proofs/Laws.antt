@@ -21,7 +21,7 @@ use Rattle.cable.specs.declared.Span.{Span}
 
 -- what is put behind the rest: what the outbox holds, then no message
 abbrev pub sentAt : Outbox → ℕ → Message
-sentAt o k = messageSent (getD (o .messages) k noMessage) k (o .count)
+sentAt o k = messageSent o k
 
 module _ (o : Outbox) (k : ℕ) where
   sent-here : k < o .count → sentAt o k ≡ getD (o .messages) k noMessage

@@ -2,7 +2,9 @@
 use mathlib.Core.Bool.{Bool, cond}
 use Prim.Native.Nat.{ℕ, _+_, min, max}
 use lib.Dec.{ltb}
+use lib.ListN.{getD}
 use Rattle.types.specs.declared.Message.{Message}
+use Rattle.types.specs.declared.Outbox.{Outbox}
 use Rattle.rules.specs.Parts.{noMessage}
 use Rattle.cable.specs.Exchange.{restOf}
 use Rattle.cable.specs.declared.Span.{Span}
@@ -15,10 +17,15 @@ firstOf p n taken = cond taken p n
 abbrev pub endOf : ℕ → ℕ → ℕ → ℕ
 endOf n rest count = min 128 (max n (rest + count))
 
--- the places of an exchange that takes out the message at p if `taken`, and sends `count`
+-- the places of an exchange that takes out the message at p if `taken`, and sends `count`, and how many wait then
 abbrev pub spanOf : ℕ → ℕ → Bool → ℕ → Span
-spanOf p n taken count = record { first = firstOf p n taken; rest = restOf n taken; last = endOf n (restOf n taken) count }
+spanOf p n taken count = record {
+  first = firstOf p n taken;
+  rest = restOf n taken;
+  last = endOf n (restOf n taken) count;
+  waiting = restOf n taken + count;
+}
 
--- what the k-th place behind the rest holds: message m, which is the one at k of an outbox of so many, or no message
-unfoldable pub messageSent : Message → ℕ → ℕ → Message
-messageSent m k count = cond (ltb k count) m noMessage
+-- what the k-th place behind the rest holds: the message at k of what is sent, or no message
+unfoldable pub messageSent : Outbox → ℕ → Message
+messageSent o k = cond (ltb k (o .count)) (getD (o .messages) k noMessage) noMessage

@@ -12,9 +12,11 @@ ghost use Rattle.cable.specs.Places.{firstOf, endOf, spanOf, messageSent
 
 // The places that an exchange changes: from `first` on messages move up, from `rest` on what is sent is put, up to `last`.
 pub struct Span {
-    pub first: u32,
-    pub rest: u32,
-    pub last: u32,
+    pub first: usize,
+    pub rest: usize,
+    pub last: usize,
+    // how many messages wait then
+    pub waiting: u32,
 }
 
 // How many of n waiting messages stay, where one is taken out if `taken`.
@@ -63,18 +65,20 @@ pub fn span_of(p: u32, n: u32, taken: bool, count: u32) -> Span
 {
     let rest = rest_of(n, taken);
     Span {
-        first: first_of(p, n, taken),
-        rest: rest,
-        last: end_of(n, rest, count),
+        first: first_of(p, n, taken) as usize,
+        rest: rest as usize,
+        last: end_of(n, rest, count) as usize,
+        waiting: rest + count,
     }
 }
 
-// What the k-th place behind the rest holds: m, the message at k of an outbox of so many, or no message.
-pub fn message_sent(m: Message, k: u32, count: u32) -> Message
-    ensures { λ r. ⌜ r ≡ messageSent m k count ⌝ }
+// What the k-th place behind the rest holds: the message at k of what is sent, or no message.
+pub fn message_sent(o: Outbox, k: usize) -> Message
+    requires { ⌜ o .count ≤ 4 ⌝ }
+    ensures { λ r. ⌜ r ≡ messageSent o k ⌝ }
 {
-    if k < count {
-        return m;
+    if k < o.count as usize {
+        return o.messages[k];
     }
     outbox::empty()
 }
@@ -105,14 +109,13 @@ fn send(ms: [Message; 128], w: u32, o: Outbox) -> [Message; 128]
     requires { ⌜ (w ≤ 128) × (o .count ≤ 4) ⌝ }
     ensures { λ r. ⌜ r ≡ sentBehind ms w o (o .count) ⌝ }
 {
-    let last = end_of(w, w, o.count);
+    let to = span_of(0, w, false, o.count);
+    let rest = to.rest;
+    let last = to.last;
     let mut out = ms;
-    let mut i = w;
+    let mut i = to.first;
     while i < last {
-        let k = (i - w) as usize;
-        let m = o.messages[k];
-        let at = i as usize;
-        out[at] = message_sent(m, i - w, o.count);
+        out[i] = message_sent(o, i - rest);
         i += 1;
     }
     out

@@ -1,9 +1,11 @@
 // What a party does to which something happens.
+use arith::reading;
 use client::discover;
 use client::renew;
 use client::request;
 use clocks::row_now;
 use outbox::nothing;
+use types::Client;
 use types::ClientAnswer;
 use types::ClientEvent;
 use types::Config;
@@ -11,6 +13,7 @@ use types::Server;
 use types::ServerAnswer;
 use types::ServerEvent;
 use types::State;
+use types::World;
 ghost use mathlib.Core.Path.{_≡_};
 ghost use Prim.Native.Nat.{_+_, _*_, _≤_, _<_};
 ghost use lib.Dec.{T};
@@ -20,7 +23,9 @@ ghost use Rattle.rules.specs.Messages.{nothing as nothingSent};
 ghost use Rattle.rules.specs.Server.{answer};
 ghost use Rattle.rules.specs.Steps.{serverAfter, noticesAfter, clientAfter, nextAfter};
 ghost use Rattle.rules.proofs.Kept.{Configured};
-ghost use Rattle.deeds.specs.Deeds.{eventInRange};
+ghost use Rattle.types.specs.declared.Deed.the-variants.{Serves, Asks};
+ghost use Rattle.world.specs.Apart.{WorldInRange};
+ghost use Rattle.deeds.specs.Deeds.{eventInRange, DeedInRange, servedIn, askedIn};
 
 // Server s is alive or not from true time t on; it sends nothing.
 fn with_life(s: Server, alive: bool, t: u32) -> ServerAnswer
@@ -38,7 +43,7 @@ fn with_life(s: Server, alive: bool, t: u32) -> ServerAnswer
 }
 
 // Server k after an event at true time t, its clock reading being r.
-pub fn server_after(c: Config, t: u32, k: u32, r: u32, s: Server, e: ServerEvent) -> ServerAnswer
+fn server_after(c: Config, t: u32, k: u32, r: u32, s: Server, e: ServerEvent) -> ServerAnswer
     requires { ⌜ Configured c × (k < c .servers) × (r ≤ 1000001000) × T (eventInRange c k e) ⌝ }
     ensures { λ x. ⌜ x ≡ serverAfter c t k r s e ⌝ }
 {
@@ -55,6 +60,16 @@ pub fn server_after(c: Config, t: u32, k: u32, r: u32, s: Server, e: ServerEvent
     }
 }
 
+// Server k of world w after an event, by its clock.
+pub fn served_in(w: World, k: u32, s: Server, e: ServerEvent) -> ServerAnswer
+    requires { ⌜ WorldInRange w × DeedInRange w (Serves k e) ⌝ }
+    ensures { λ x. ⌜ x ≡ servedIn w k s e ⌝ }
+{
+    let at = k as usize;
+    let c = w.config;
+    server_after(c, w.time, k, reading(w.time, w.offsets[at]), s, e)
+}
+
 // The notice times with that of receiver k about server j set to t.
 fn notice_now(ts: [u32; 16], k: u32, j: u32, t: u32) -> [u32; 16]
     requires { ⌜ (k < 4) × (j < 4) ⌝ }
@@ -67,10 +82,12 @@ fn notice_now(ts: [u32; 16], k: u32, j: u32, t: u32) -> [u32; 16]
 }
 
 // The notice times after it.
-pub fn notices_after(c: Config, ts: [u32; 16], t: u32, k: u32, e: ServerEvent) -> [u32; 16]
-    requires { ⌜ Configured c × (k < c .servers) × T (eventInRange c k e) ⌝ }
-    ensures { λ r. ⌜ r ≡ noticesAfter ts t k e ⌝ }
+pub fn notices_after(w: World, k: u32, e: ServerEvent) -> [u32; 16]
+    requires { ⌜ WorldInRange w × DeedInRange w (Serves k e) ⌝ }
+    ensures { λ r. ⌜ r ≡ noticesAfter (w .notices) (w .time) k e ⌝ }
 {
+    let ts = w.notices;
+    let t = w.time;
     match e {
         ServerEvent::Fails => ts,
         ServerEvent::Returns => row_now(ts, k, t),
@@ -81,7 +98,7 @@ pub fn notices_after(c: Config, ts: [u32; 16], t: u32, k: u32, e: ServerEvent) -
 }
 
 // Client i in state x after an event, its clock reading being r and n the next interaction.
-pub fn client_after(c: Config, n: u32, i: u32, r: u32, x: State, e: ClientEvent) -> ClientAnswer
+fn client_after(c: Config, n: u32, i: u32, r: u32, x: State, e: ClientEvent) -> ClientAnswer
     requires { ⌜ Configured c × (i < c .clients) ⌝ }
     ensures { λ y. ⌜ y ≡ clientAfter c n i r x e ⌝ }
 {
@@ -91,6 +108,17 @@ pub fn client_after(c: Config, n: u32, i: u32, r: u32, x: State, e: ClientEvent)
         ClientEvent::Renews(t) => renew(c, i, x, t, n),
         ClientEvent::Hears(m) => client::receive(r, x, m),
     }
+}
+
+// Client i of world w after an event, by its clock.
+pub fn asked_in(w: World, i: u32, y: Client, e: ClientEvent) -> ClientAnswer
+    requires { ⌜ WorldInRange w × DeedInRange w (Asks i e) ⌝ }
+    ensures { λ x. ⌜ x ≡ askedIn w i y e ⌝ }
+{
+    let c = w.config;
+    let party = (c.servers + i) as usize;
+    let state = y.state;
+    client_after(c, w.next, i, reading(w.time, w.offsets[party]), state, e)
 }
 
 // The next interaction after it.

@@ -30,7 +30,7 @@ use Rattle.types.specs.declared.World.{World}
 use Rattle.types.specs.declared.Lives.{Lives}
 use Rattle.rules.specs.Conditions.{_and_, within, unless, all}
 use Rattle.rules.specs.Clock.{signed}
-use Rattle.rules.specs.Parts.{noServer, noClient, noMessage, messageAt, clockOf, clientParty}
+use Rattle.rules.specs.Parts.{noServer, noClient, noMessage, messageAt}
 use Rattle.rules.specs.Messages.{nothing, sentBehind, withoutIf}
 use Rattle.rules.specs.Ranges.{inRange, isServer, messageInRange, Sound}
 use Rattle.rules.specs.Server.{noticed, cleaned}
@@ -46,7 +46,7 @@ use Rattle.world.specs.Apart.{facadeOf, livesOf, placeBelow}
 use Rattle.world.proofs.Laws.{place-named, sizes, waiting-high}
 use Rattle.cable.specs.Exchange.{restOf, roomFor, exchanged}
 use Rattle.decisions.specs.Decided.{decided}
-use Rattle.deeds.specs.Deeds.{eventInRange, DeedInRange}
+use Rattle.deeds.specs.Deeds.{eventInRange, DeedInRange, servedIn, askedIn}
 use Rattle.facade.specs.Settled.{nextIn, noticesIn, waitingIn, settled, unlessFull}
 
 -- The kinds of step.
@@ -304,19 +304,17 @@ module _ (w : World) (ss : List Server) (ys : List Client) (ms : List Message) (
   passes-is true d q e h k = rw (k, h, none-more (w .waiting - 1))
   passes-is false d q e h k = rw (k, h, none-more (w .waiting))
 
-  pub serves-is : (b : Bool) (k : ℕ) (e : ServerEvent) {r : ℕ} {z : ServerAnswer} {ts : List ℕ} → r ≡ clockOf (w .time) (w .offsets) k
-      → z ≡ serverAfter (w .config) (w .time) k r (getD ss k noServer) e → ts ≡ noticesAfter (w .notices) (w .time) k e
-      → enacted (out b) (Serves k e) ≡ settled (noticesIn w ts) (set ss k (z .server)) ys ms p b (z .outbox) (z .outcome)
+  pub serves-is : (b : Bool) (k : ℕ) (e : ServerEvent) {z : ServerAnswer} {ts : List ℕ} → z ≡ servedIn w k (getD ss k noServer) e
+      → ts ≡ noticesAfter (w .notices) (w .time) k e → enacted (out b) (Serves k e) ≡ settled (noticesIn w ts) (set ss k (z .server)) ys ms p b (z .outbox) (z .outcome)
   unfolding enacted
-  serves-is true k e i h j = rw (h, i, j)
-  serves-is false k e i h j = rw (h, i, j)
+  serves-is true k e h j = rw (h, j)
+  serves-is false k e h j = rw (h, j)
 
-  pub asks-is : (b : Bool) (i : ℕ) (e : ClientEvent) {r n : ℕ} {z : ClientAnswer} → r ≡ clockOf (w .time) (w .offsets) (clientParty (w .config) i)
-      → z ≡ clientAfter (w .config) (w .next) i r ((getD ys i noClient) .state) e → n ≡ nextAfter (w .next) e
-      → enacted (out b) (Asks i e) ≡ settled (nextIn w n) ss (set ys i (z .client)) ms p b (z .outbox) (z .outcome)
+  pub asks-is : (b : Bool) (i : ℕ) (e : ClientEvent) {n : ℕ} {z : ClientAnswer} → z ≡ askedIn w i (getD ys i noClient) e
+      → n ≡ nextAfter (w .next) e → enacted (out b) (Asks i e) ≡ settled (nextIn w n) ss (set ys i (z .client)) ms p b (z .outbox) (z .outcome)
   unfolding enacted
-  asks-is true i e q h j = rw (h, q, j)
-  asks-is false i e q h j = rw (h, q, j)
+  asks-is true i e h j = rw (h, j)
+  asks-is false i e h j = rw (h, j)
 
 -- no party sends more than an outbox holds
 pub few-served : (c : Config) → c .servers ≤ 4 → (t k r : ℕ) → k < c .servers → (s : Server) (e : ServerEvent) → (serverAfter c t k r s e) .outbox .count ≤ 4

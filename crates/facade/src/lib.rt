@@ -1,6 +1,5 @@
 // A whole facade: fresh, a step of any kind, and how many clients hold.
 use arith::both;
-use arith::reading;
 use cable::exchange;
 use cable::has_room;
 use cable::rest_of;
@@ -8,10 +7,10 @@ use client::is_holding;
 use clocks::end_holds;
 use clocks::move_on;
 use decisions::decided;
-use deeds::client_after;
+use deeds::asked_in;
 use deeds::next_after;
 use deeds::notices_after;
-use deeds::server_after;
+use deeds::served_in;
 use outbox::nothing;
 use ranges::config_in_range;
 use ranges::facade_in_range;
@@ -130,16 +129,14 @@ fn serve(f: Facade, p: u32, taken: bool, k: u32, e: ServerEvent) -> Answer
     requires { ⌜ T (inRange f) × DeedInRange (worldOf f) (Serves k e) × (T taken → p < f .waiting) ⌝ }
     ensures { λ r. ⌜ r ≡ unlessFull f (enacted (withoutIf f p taken) (Serves k e)) ⌝ }
 {
-    let c = f.config;
     let at = k as usize;
     let mut ss = f.servers;
     let own = ss[at];
-    let x = server_after(c, f.time, k, reading(f.time, f.offsets[at]), own, e);
+    let mut w = world_of(f);
+    let x = served_in(w, k, own, e);
     let t = x.server;
     ss[at] = t;
-    let ts = f.notices;
-    let mut w = world_of(f);
-    let now = notices_after(c, ts, f.time, k, e);
+    let now = notices_after(w, k, e);
     w.notices = now;
     let ys = f.clients;
     let sent = x.outbox;
@@ -151,17 +148,14 @@ fn ask(f: Facade, p: u32, taken: bool, i: u32, e: ClientEvent) -> Answer
     requires { ⌜ T (inRange f) × DeedInRange (worldOf f) (Asks i e) × (T taken → p < f .waiting) ⌝ }
     ensures { λ r. ⌜ r ≡ unlessFull f (enacted (withoutIf f p taken) (Asks i e)) ⌝ }
 {
-    let c = f.config;
     let at = i as usize;
-    let party = (c.servers + i) as usize;
     let mut ys = f.clients;
     let y = ys[at];
-    let state = y.state;
-    let x = client_after(c, f.next, i, reading(f.time, f.offsets[party]), state, e);
+    let mut w = world_of(f);
+    let x = asked_in(w, i, y, e);
     let z = x.client;
     ys[at] = z;
-    let mut w = world_of(f);
-    w.next = next_after(f.next, e);
+    w.next = next_after(w.next, e);
     let ss = f.servers;
     let sent = x.outbox;
     settle(f, w, ss, ys, p, taken, sent, x.outcome)

@@ -1,12 +1,12 @@
 -- The lines of the records, one record at a time.
 use mathlib.Core.Path.{_≡_, refl}
 use mathlib.Core.Bool.{Bool, true, false}
-use mathlib.Core.List.{List, _++_}
+use mathlib.Core.List.{List, [], _++_}
 use Prim.Native.Nat.{ℕ, zero, suc, _+_, _-_, _*_, _≤_, _<_}
 use native.Mathlib.Omega.{arith}
 use lib.Dec.{T, eqb, leb, ltb→lt, nleb→lt}
 use lib.ListN.{length, getD, take, drop, length-append}
-use borrow.Author.Tests.{le-leb, lt-leb, eq-eqb, ne-eqb}
+use borrow.Author.Tests.{le-ltb, eq-eqb, ne-eqb}
 use Rattle.types.specs.declared.Facade.{Facade}
 use Rattle.types.specs.declared.Step.{Step}
 use Rattle.types.specs.declared.Answer.{Answer}
@@ -22,12 +22,17 @@ use Rattle.script.specs.declared.Record.{Record}
 use Rattle.report.specs.Lines.{recordLine, heldLine}
 use Rattle.report.proofs.Laws.{record-line-short, held-line-short}
 use Rattle.turns.specs.declared.Progress.{Progress}
-use Rattle.turns.specs.Turns.{before, answerLine, linesFrom, progressFrom}
+use Rattle.turns.specs.Turns.{before, answerLine, endsAt, lastLines, linesFrom, progressFrom}
 
 true-is-not-false : {X : Type 0} → true ≡ false → X
 true-is-not-false e = absurd (to-false e tt) where
   to-false : {b : Bool} → true ≡ b → T true → T b
   to-false q t = rw (← q) t
+
+-- from the script's end on a run ends
+ends-past : (s : List ℕ) (p : ℕ) → length s ≤ p → endsAt s p ≡ true
+unfolding recordAt _and_
+ends-past s p h = rw (le-ltb p (length s) h)
 
 -- a record of no bytes has refusal 3
 has-a-kind : (n : ℕ) (l : List ℕ) → ((decoded (take n l)) .refusal ≡ 3 → ⊥) → 1 ≤ n
@@ -79,16 +84,17 @@ module _ (s : List ℕ) (short : length s ≤ longest) where
       let x = step f (r .step) in
       let rest = linesFrom n (x .facade) s (r .next) (k + 1) in
       let Fits : List ℕ → Type 0 = λ l. (length l ≤ 13 * (length s - p) + 42) × (length l ≤ 26 * suc n + 16) in
-      cond-case Fits (leb (length s) p) _ _ (λ t. (omega arith, omega arith))
+      cond-case Fits (endsAt s p) _ _
+      (λ t. cond-case (λ (l : List ℕ). Fits (l ++ heldLine (heldClients f))) (leb (length s) p) _ _
+      (λ u. (omega arith, omega arith))
       (λ u. let before = nleb→lt (length s) p u in
-      cond-case Fits (eqb (r .refusal) 3) _ _
-      (λ t. let line = stop-line-short k f (omega arith) v in
-      simp length-append (omega (arith, line), omega (arith, line)))
+      let line = stop-line-short k f (omega arith) v in
+      simp length-append (omega (arith, line), omega (arith, line))))
       (λ t. let on = moves-two s p (not-eqb _ _ t) in
       let both = length-append (answerLine k x) rest in
       let line = answer-line-short k f (r .step) x (omega arith) v refl in
       let later = lines-high n (x .facade) (r .next) (k + 1) (step-sound f (r .step) v) (omega arith) in
-      (omega (arith, line, later .0), omega (arith, line, later .1))))
+      (omega (arith, line, later .0), omega (arith, line, later .1)))
 
   pub lines-fit : (n : ℕ) (f : Facade) (p k : ℕ) → Sound f → 2 * k + 27 ≤ p → length (linesFrom n f s p k) ≤ 13 * (length s - p) + 42
   lines-fit n f p k v h = lines-high n f p k v h .0
@@ -96,39 +102,27 @@ module _ (s : List ℕ) (short : length s ≤ longest) where
   pub lines-few : (n : ℕ) (f : Facade) (p k : ℕ) → Sound f → 2 * k + 27 ≤ p → length (linesFrom n f s p k) ≤ 26 * n + 16
   lines-few n f p k v h = lines-high n f p k v h .1
 
--- One turn, where it is known which.
-module _ (n : ℕ) (f : Facade) (s : List ℕ) (p k : ℕ) where
-  -- the end is reached
-  module _ (h : length s ≤ p) where
-    pub ends-with : linesFrom (suc n) f s p k ≡ heldLine (heldClients f)
+-- One turn, where r is the record at p.
+module _ (n : ℕ) (f : Facade) (s : List ℕ) (p k : ℕ) (r : Record) (e : r ≡ recordAt s p) where
+  -- refusal 3 ends the run
+  module _ (t : r .refusal ≡ 3) where
+    pub ends-with : linesFrom (suc n) f s p k ≡ lastLines (leb (length s) p) k (f .time) (f .waiting) (heldClients f)
     unfolding linesFrom
-    ends-with = rw (le-leb (length s) p h)
+    ends-with = rw (← e, eq-eqb (r .refusal) 3 t)
 
     pub ends-at : before f p k true ≡ progressFrom (suc n) f s p k
     unfolding progressFrom
-    ends-at = rw (le-leb (length s) p h)
+    ends-at = rw (← e, eq-eqb (r .refusal) 3 t)
 
-  -- r is the record at p, before the end
-  module _ (r : Record) (h : p < length s) (e : r ≡ recordAt s p) where
-    -- refusal 3 ends the run
-    module _ (t : r .refusal ≡ 3) where
-      pub stops-with : linesFrom (suc n) f s p k ≡ recordLine k 3 0 (f .time) (f .waiting) ++ heldLine (heldClients f)
-      unfolding linesFrom
-      stops-with = rw (lt-leb (length s) p h, ← e, eq-eqb (r .refusal) 3 t)
+  -- any other record has its line, and the rest is that of the facade which its step gives back
+  module _ (x : Answer) (d : x ≡ step f (r .step)) (t : r .refusal ≡ 3 → ⊥) where
+    pub goes-with : linesFrom (suc n) f s p k ≡ answerLine k x ++ linesFrom n (x .facade) s (r .next) (k + 1)
+    unfolding linesFrom
+    goes-with = rw (← e, ne-eqb (r .refusal) 3 t, ← d)
 
-      pub stops-at : before f p k true ≡ progressFrom (suc n) f s p k
-      unfolding progressFrom
-      stops-at = rw (lt-leb (length s) p h, ← e, eq-eqb (r .refusal) 3 t)
-
-    -- any other record has its line, and the rest is that of the facade which its step gives back
-    module _ (x : Answer) (d : x ≡ step f (r .step)) (t : r .refusal ≡ 3 → ⊥) where
-      pub goes-with : linesFrom (suc n) f s p k ≡ answerLine k x ++ linesFrom n (x .facade) s (r .next) (k + 1)
-      unfolding linesFrom
-      goes-with = rw (lt-leb (length s) p h, ← e, ne-eqb (r .refusal) 3 t, ← d)
-
-      pub goes-to : progressFrom (suc n) f s p k ≡ progressFrom n (x .facade) s (r .next) (k + 1)
-      unfolding progressFrom
-      goes-to = rw (lt-leb (length s) p h, ← e, ne-eqb (r .refusal) 3 t, ← d)
+    pub goes-to : progressFrom (suc n) f s p k ≡ progressFrom n (x .facade) s (r .next) (k + 1)
+    unfolding progressFrom
+    goes-to = rw (← e, ne-eqb (r .refusal) 3 t, ← d)
 
 -- The place of a run does not go back, and a turn that does not end the run moves it on.
 module _ (s : List ℕ) where
@@ -138,15 +132,13 @@ module _ (s : List ℕ) where
   not-back (suc n) f p k =
       let r = recordAt s p in
       let P : Progress → Type 0 = λ x. p ≤ x .place in
-      cond-case P (leb (length s) p) _ _ (λ t. omega arith)
-      (λ u. cond-case P (eqb (r .refusal) 3) _ _ (λ t. omega arith)
-      (λ t. omega (arith, moves-two s p (not-eqb _ _ t), not-back n ((step f (r .step)) .facade) (r .next) (k + 1))))
+      cond-case P (endsAt s p) _ _ (λ t. omega arith)
+      (λ t. omega (arith, moves-two s p (not-eqb _ _ t), not-back n ((step f (r .step)) .facade) (r .next) (k + 1)))
 
   pub moves-on : (n : ℕ) (f : Facade) (p k : ℕ) → (progressFrom (suc n) f s p k) .ended ≡ false → p < (progressFrom (suc n) f s p k) .place
   unfolding progressFrom
   moves-on n f p k =
       let r = recordAt s p in
       let P : Progress → Type 0 = λ x. x .ended ≡ false → p < x .place in
-      cond-case P (leb (length s) p) _ _ (λ t e. true-is-not-false e)
-      (λ u. cond-case P (eqb (r .refusal) 3) _ _ (λ t e. true-is-not-false e)
-      (λ t e. omega (arith, moves-two s p (not-eqb _ _ t), not-back n ((step f (r .step)) .facade) (r .next) (k + 1))))
+      cond-case P (endsAt s p) _ _ (λ t e. true-is-not-false e)
+      (λ t e. omega (arith, moves-two s p (not-eqb _ _ t), not-back n ((step f (r .step)) .facade) (r .next) (k + 1)))

@@ -1,9 +1,10 @@
 -- The turns of the run: from the lines that are owed at a place, to what is owed or put behind it.
 use mathlib.Core.Path.{_≡_, sym, _∙_}
 use mathlib.Core.Bool.{Bool, true, false}
-use mathlib.Core.List.{List, [], _++_}
-use Prim.Native.Nat.{ℕ, suc, _+_, _*_, _≤_, _<_}
+use mathlib.Core.List.{List, []}
+use Prim.Native.Nat.{ℕ, suc, _+_, _*_, _≤_}
 use native.Mathlib.Omega.{arith}
+use lib.Dec.{leb}
 use lib.IntN.{ℤ}
 use lib.ListN.{length}
 use Rattle.types.specs.declared.Server.{Server}
@@ -15,26 +16,21 @@ use Rattle.types.specs.declared.Facade.{Facade}
 use Rattle.types.specs.declared.Answer.{Answer}
 use Rattle.rules.specs.Ranges.{Sound}
 use Rattle.rules.specs.Views.{worldOf}
-use Rattle.rules.specs.Steps.{Action, action, malformed, ended, step, heldAmong, heldClients}
+use Rattle.rules.specs.Steps.{Action, action, malformed, ended, step, heldAmong}
 use Rattle.rules.proofs.Laws.{length-filled}
 use Rattle.rules.proofs.Ranges.{step-sound}
 use Rattle.world.specs.Apart.{facadeOf}
 use Rattle.script.specs.Reading.{longest, recordAt}
 use Rattle.script.specs.declared.Record.{Record}
 use Rattle.script.proofs.Refusals.{record-refusal}
-use Rattle.report.specs.Lines.{recordLine, heldLine}
 use Rattle.wire.specs.Numbers.{over}
 use Rattle.wire.proofs.Over.{over-length}
 use Rattle.report.proofs.Laws.{Put, put-none}
 use Rattle.turns.specs.declared.Progress.{Progress}
 use Rattle.turns.specs.declared.Piece.{Piece}
-use Rattle.turns.specs.Turns.{before, answerLine, linesFrom, progressFrom, UnderWay}
+use Rattle.turns.specs.Turns.{before, answerLine, lastLines, linesFrom, progressFrom, UnderWay}
 use Rattle.turns.proofs.Owed.{Owed, fits-first, owed-less, owed-none}
-use Rattle.turns.proofs.Lines.{moves-past, ends-with, ends-at, stops-with, stops-at, goes-with, goes-to}
-
--- how many hold, of a facade taken apart
-held-apart : (w : World) (ss : List Server) (ys : List Client) (ms : List Message) (n : ℕ) → n ≡ heldAmong (w .config) ys → n ≡ heldClients (facadeOf w ss ys ms)
-held-apart w ss ys ms n e = e
+use Rattle.turns.proofs.Lines.{moves-past, ends-with, ends-at, goes-with, goes-to}
 
 -- the clients are as many when holds have ended
 pub as-many-clients : (c : Config) (n : ℕ) (os : List ℤ) (ys : List Client) → length (ended c n os ys) ≡ length ys
@@ -89,28 +85,15 @@ module _ {s l v m : List ℕ} {i j p k left : ℕ} {z : Progress} {w : World} {s
     runs : z ≡ progressFrom (suc n) (facadeOf w ss ys ms) s p k
     runs = rw u at (g .run)
 
-    -- the end is reached, and the last line is put
-    pub last-put : length s ≤ p → (c : ℕ) → c ≡ heldAmong (w .config) ys → {e : ℕ} {m₁ : List ℕ} → Put m j (heldLine c) e m₁
-        → (x : Piece) → x ≡ piece (facadeOf w ss ys ms) p k true e → Over s l v i z m₁ x
-    last-put h c q {e} {m₁} t x d =
-        let f = facadeOf w ss ys ms in
-        rw d (record { run = ends-at n f s p k h ∙ sym runs; way = stands true; put = owed-none l v m (heldLine c) i j e (rw (ends-with n f s p k h, ← held-apart w ss ys ms c q) at owes) t })
-
-    -- r is the record at p, before the end
-    module _ (r : Record) (h : p < length s) (e : r ≡ recordAt s p) where
-      -- it has refusal 3, and its line and the last one are put
-      pub stop-put : r .refusal ≡ 3 → (c : ℕ) → c ≡ heldAmong (w .config) ys → {a b : ℕ} {m₁ m₂ : List ℕ} → Put m j (recordLine k 3 0 (w .time) (w .waiting)) a m₁
-          → Put m₁ a (heldLine c) b m₂ → (x : Piece) → x ≡ piece (facadeOf w ss ys ms) p k true b → Over s l v i z m₂ x
-      stop-put t c q {a} {b} {m₁} o y x d =
+    -- r is the record at p
+    module _ (r : Record) (e : r ≡ recordAt s p) where
+      -- it has refusal 3, and the lines that end the run are put
+      pub last-put : r .refusal ≡ 3 → (c : ℕ) → c ≡ heldAmong (w .config) ys → {a : ℕ} {m₁ : List ℕ} → Put m j (lastLines (leb (length s) p) k (w .time) (w .waiting) c) a m₁
+          → (x : Piece) → x ≡ piece (facadeOf w ss ys ms) p k true a → Over s l v i z m₁ x
+      last-put t c q {a} o x d =
           let f = facadeOf w ss ys ms in
-          let line = recordLine k 3 0 (w .time) (w .waiting) in
-          let rest : linesFrom (suc n) f s p k ≡ line ++ heldLine c = rw (held-apart w ss ys ms c q) (stops-with n f s p k r h e t) in
-          let two : Owed l i v m j (line ++ heldLine c) = rw rest at owes in
-          rw d (record {
-            run = stops-at n f s p k r h e t ∙ sym runs;
-            way = stands true;
-            put = owed-none l v m₁ (heldLine c) i a b (owed-less l v m line (heldLine c) i j a (fits-first l v m line (heldLine c) i j two fits) two o) y;
-          })
+          let rest : linesFrom (suc n) f s p k ≡ lastLines (leb (length s) p) k (w .time) (w .waiting) c = rw q (ends-with n f s p k r e t) in
+          rw d (record { run = ends-at n f s p k r e t ∙ sym runs; way = stands true; put = owed-none l v m (lastLines (leb (length s) p) k (w .time) (w .waiting) c) i j a (rw rest at owes) o })
 
       -- any other has its line put, and the turns go on from the facade that its step gives
       pub goes-round : (r .refusal ≡ 3 → ⊥) → (x : Answer) → x ≡ step (facadeOf w ss ys ms) (r .step)
@@ -119,7 +102,7 @@ module _ {s l v m : List ℕ} {i j p k left : ℕ} {z : Progress} {w : World} {s
       goes-round t x d {w₁} {ss₁} {ys₁} {ms₁} q servers clients {a} {m₁} o =
           let f = facadeOf w ss ys ms in
           let on = moves-past s p r e t in
-          let two = rw (goes-with n f s p k r h e x d t) at owes in
+          let two = rw (goes-with n f s p k r e x d t) at owes in
           let first = fits-first l v m (answerLine k x) _ i j two fits in
           let sound : Sound (x .facade) = rw d (step-sound f (r .step) (g .way .sound)) in
           let counted : 2 * (k + 1) + 27 ≤ r .next = omega (arith, on, g .way .counted) in
@@ -135,7 +118,7 @@ module _ {s l v m : List ℕ} {i j p k left : ℕ} {z : Progress} {w : World} {s
             };
             same = rw (o .1) (over-length m j (answerLine k x) first) ∙ g .same;
             owed = rw q at (owed-less l v m (answerLine k x) _ i j a first two o);
-            run = rw q at (runs ∙ goes-to n f s p k r h e x d t);
+            run = rw q at (runs ∙ goes-to n f s p k r e x d t);
             room = g .room;
           }
 

@@ -22,22 +22,27 @@ answerLine k x = recordLine k (x .refusal) (x .outcome) (x .facade .time) (x .fa
 abbrev pub before : Facade → ℕ → ℕ → Bool → Progress
 before f p k ended = record { facade = f; place = p; number = k; ended = ended }
 
+-- the run ends at place p: the record there has refusal 3, which reading says of every place from the script's end on
+abbrev pub endsAt : List ℕ → ℕ → Bool
+endsAt s p = eqb ((recordAt s p) .refusal) 3
+
+-- the lines that end a run where n clients hold: that of record k, which has refusal 3, unless the script is over; and the last one
+abbrev pub lastLines : Bool → ℕ → ℕ → ℕ → ℕ → List ℕ
+lastLines over k t w n = cond over [] (recordLine k 3 0 t w) ++ heldLine n
+
 -- the lines of the n turns from the record at place p on, which is number k: a turn takes one record, and the last turn ends the run
 unfoldable pub linesFrom : ℕ → Facade → List ℕ → ℕ → ℕ → List ℕ
 linesFrom zero f s p k = []
 linesFrom (suc n) f s p k =
-    cond (leb (length s) p) (heldLine (heldClients f))
-    (cond (eqb ((recordAt s p) .refusal) 3)
-    (recordLine k 3 0 (f .time) (f .waiting) ++ heldLine (heldClients f))
-    (answerLine k (step f ((recordAt s p) .step)) ++ linesFrom n ((step f ((recordAt s p) .step)) .facade) s ((recordAt s p) .next) (k + 1)))
+    cond (endsAt s p) (lastLines (leb (length s) p) k (f .time) (f .waiting) (heldClients f))
+    (answerLine k (step f ((recordAt s p) .step)) ++ linesFrom n ((step f ((recordAt s p) .step)) .facade) s ((recordAt s p) .next) (k + 1))
 
 -- the run behind them
 unfoldable pub progressFrom : ℕ → Facade → List ℕ → ℕ → ℕ → Progress
 progressFrom zero f s p k = before f p k false
 progressFrom (suc n) f s p k =
-    cond (leb (length s) p) (before f p k true)
-    (cond (eqb ((recordAt s p) .refusal) 3) (before f p k true)
-    (progressFrom n ((step f ((recordAt s p) .step)) .facade) s ((recordAt s p) .next) (k + 1)))
+    cond (endsAt s p) (before f p k true)
+    (progressFrom n ((step f ((recordAt s p) .step)) .facade) s ((recordAt s p) .next) (k + 1))
 
 -- the run r of a script of the right length is under way: its facade is in range, and each record before took two bytes or more, from place 29 on
 pub record UnderWay (s : List ℕ) (r : Progress) : Type 0 where

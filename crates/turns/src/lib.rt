@@ -1,18 +1,14 @@
 // The turns of a run: each record's step, and its line, put into a lent buffer.
-use arith::reading;
-use arith::shifted;
-use cable::end_of;
-use cable::first_of;
+use cable::has_room;
 use cable::message_sent;
-use cable::rest_of;
+use cable::span_of;
 use clocks::end_holds;
+use clocks::move_on;
 use decisions::decided;
-use deeds::client_after;
-use deeds::deed_of;
+use deeds::asked_in;
 use deeds::next_after;
 use deeds::notices_after;
-use deeds::server_after;
-use deeds::takes_out;
+use deeds::served_in;
 use facade::held_among;
 use outbox::nothing;
 use report::put_held_line;
@@ -32,9 +28,10 @@ use world::world_of;
 ghost use mathlib.Core.Path.{_≡_};
 ghost use Prim.Native.Nat.{_+_, _≤_};
 ghost use lib.ListN.{length};
-ghost use Rattle.wire.specs.Numbers.{over};
+ghost use Rattle.wire.specs.Numbers.{over as overAt};
+ghost use Rattle.rules.specs.Steps.{heldAmong};
 ghost use Rattle.world.specs.Apart.{facadeOf};
-ghost use Rattle.turns.specs.Turns.{before, linesFrom, progressFrom, UnderWay};
+ghost use Rattle.turns.specs.Turns.{before, lastLines, linesFrom, progressFrom, UnderWay};
 
 // A run under way.
 pub struct Progress {
@@ -78,13 +75,35 @@ fn piece_of(
     }
 }
 
+// The lines that end a run at record k are put, unless the script is over there only the last; n clients hold.
+fn put_last_lines(
+    out: &mut [u8],
+    at: usize,
+    over: bool,
+    k: u32,
+    w: World,
+    ys: [Client; 32],
+) -> usize
+    requires { ⌜ (at + 55 ≤ length (now out)) × (k ≤ 99999) × (w .waiting ≤ 128) ⌝ }
+    ensures { λ r. ⌜ r ≡ at + length (lastLines over k (w .time) (w .waiting) (heldAmong (w .config) ys)) ⌝ }
+    ensures { λ _. ⌜ now (out .exit) ≡ overAt (now (out .entry)) at (lastLines over k (w .time) (w .waiting) (heldAmong (w .config) ys)) ⌝ }
+{
+    let n = held_among(w.config, ys);
+    if over {
+        return put_held_line(out, at, n);
+    }
+    let next = put_record_line(out, at, k, 3, 0, w.time, w.waiting);
+    put_held_line(out, next, n)
+}
+
 // The lines of so many turns of the run r are put from place `start` on. The facade stays apart in locals, what happens is put in
 // there as `facade::step` does, and the messages are exchanged by the two loops of `cable::exchange`, written out here: whatever
-// is handed on is copied, once for each record.
+// is handed on is copied, once for each record. In a refused step nothing happens and no message is taken out, so that every
+// record goes the same way to its line.
 pub fn put_turns(s: &[u8], r: Progress, out: &mut [u8], start: usize, most: u32) -> Piece
     requires { ⌜ UnderWay (now s) r × (start + length (linesFrom most (r .facade) (now s) (r .place) (r .number)) + 55 ≤ length (now out)) ⌝ }
     ensures { λ x. ⌜ (x .progress ≡ progressFrom most (r .facade) (now (s .entry)) (r .place) (r .number)) × UnderWay (now (s .entry)) (x .progress) × (x .end ≡ start + length (linesFrom most (r .facade) (now (s .entry)) (r .place) (r .number))) ⌝ }
-    ensures { λ _. ⌜ now (out .exit) ≡ over (now (out .entry)) start (linesFrom most (r .facade) (now (s .entry)) (r .place) (r .number)) ⌝ }
+    ensures { λ _. ⌜ now (out .exit) ≡ overAt (now (out .entry)) start (linesFrom most (r .facade) (now (s .entry)) (r .place) (r .number)) ⌝ }
 {
     let f = r.facade;
     let mut w = world_of(f);
@@ -96,104 +115,77 @@ pub fn put_turns(s: &[u8], r: Progress, out: &mut [u8], start: usize, most: u32)
     let mut k = r.number;
     let mut left = most;
     while 0 < left {
-        if s.len() <= p {
-            let end = put_held_line(out, at, held_among(w.config, ys));
-            return piece_of(w, ss, ys, ms, p, k, true, end);
-        }
         let d = record_at(s, p);
         if d.refusal == 3 {
-            at = put_record_line(out, at, k, 3, 0, w.time, w.waiting);
-            let end = put_held_line(out, at, held_among(w.config, ys));
+            let end = put_last_lines(out, at, s.len() <= p, k, w, ys);
             return piece_of(w, ss, ys, ms, p, k, true, end);
         }
         left -= 1;
         let step = d.step;
-        let x = action_of(step);
         let from = place_below(128, step.first);
-        let m = ms[from];
         let near = place_below(32, step.first);
         let y = ys[near];
         let state = y.state;
-        let n = first_broken(d.refusal, w, lives_of(ss), state, x);
-        if n != 0 {
-            at = put_record_line(out, at, k, n, 0, w.time, w.waiting);
-            p = d.next;
-            k += 1;
-            continue;
-        }
-        let taken = takes_out(x);
-        let rest = rest_of(w.waiting, taken);
-        let happens = deed_of(w.config, m, x);
+        let x = decided(d.refusal, w, lives_of(ss), state, ms[from], action_of(step));
+        let mut refusal = x.refusal;
+        let mut taken = x.taken;
         let mut sent = nothing();
         let mut outcome = 0;
+        let happens = x.happens;
         match happens {
             Deed::Rests => {}
             Deed::Passes(d, q, e) => {
-                let place = q as usize;
-                w.time = w.time + d;
-                w.offsets[place] = shifted(w.offsets[place], e);
-                let zs = end_holds(w, ys);
+                let g = move_on(w, d, q, e);
+                let zs = end_holds(g, ys);
+                w = g;
                 ys = zs;
             }
             Deed::Serves(j, e) => {
                 let place = j as usize;
-                let c = w.config;
-                let r = reading(w.time, w.offsets[place]);
-                let x = server_after(c, w.time, j, r, ss[place], e);
+                let x = served_in(w, j, ss[place], e);
                 let o = x.outbox;
-                if 128 < rest + o.count {
-                    at = put_record_line(out, at, k, 13, 0, w.time, w.waiting);
-                    p = d.next;
-                    k += 1;
-                    continue;
+                if has_room(w.waiting, taken, o.count) {
+                    let t = x.server;
+                    ss[place] = t;
+                    let now = notices_after(w, j, e);
+                    w.notices = now;
+                    sent = o;
+                    outcome = x.outcome;
+                } else {
+                    refusal = 13;
+                    taken = false;
                 }
-                let t = x.server;
-                ss[place] = t;
-                let ts = w.notices;
-                let now = notices_after(c, ts, w.time, j, e);
-                w.notices = now;
-                sent = o;
-                outcome = x.outcome;
             }
             Deed::Asks(i, e) => {
                 let place = i as usize;
-                let c = w.config;
-                let party = (c.servers + i) as usize;
-                let y = ys[place];
-                let state = y.state;
-                let x = client_after(c, w.next, i, reading(w.time, w.offsets[party]), state, e);
+                let x = asked_in(w, i, ys[place], e);
                 let o = x.outbox;
-                if 128 < rest + o.count {
-                    at = put_record_line(out, at, k, 13, 0, w.time, w.waiting);
-                    p = d.next;
-                    k += 1;
-                    continue;
+                if has_room(w.waiting, taken, o.count) {
+                    let z = x.client;
+                    ys[place] = z;
+                    w.next = next_after(w.next, e);
+                    sent = o;
+                    outcome = x.outcome;
+                } else {
+                    refusal = 13;
+                    taken = false;
                 }
-                let z = x.client;
-                ys[place] = z;
-                w.next = next_after(w.next, e);
-                sent = o;
-                outcome = x.outcome;
             }
         }
-        let n = w.waiting;
-        let last = end_of(n, rest, sent.count);
-        let mut q = first_of(step.first, n, taken);
+        let to = span_of(step.first, w.waiting, taken, sent.count);
+        let rest = to.rest;
+        let last = to.last;
+        let mut q = to.first;
         while q < rest {
-            let to = q as usize;
-            let above = ms[to + 1];
-            ms[to] = above;
+            ms[q] = ms[q + 1];
             q += 1;
         }
         while q < last {
-            let to = q as usize;
-            let from = (q - rest) as usize;
-            let one = sent.messages[from];
-            ms[to] = message_sent(one, q - rest, sent.count);
+            ms[q] = message_sent(sent, q - rest);
             q += 1;
         }
-        w.waiting = rest + sent.count;
-        at = put_record_line(out, at, k, 0, outcome, w.time, w.waiting);
+        w.waiting = to.waiting;
+        at = put_record_line(out, at, k, refusal, outcome, w.time, to.waiting);
         p = d.next;
         k += 1;
     }

@@ -1,6 +1,7 @@
 use native.Mathlib.Omega.{arith}
-use Rattle.deeds.proofs.Laws.{about-low}
+use Rattle.deeds.proofs.Laws.{about-low, served-low, served-event}
 use Rattle.rules.specs.Steps.{noticesAfter}
+use Rattle.world.proofs.Laws.{sizes}
 use borrow.Author.Needs.{needs}
 use Rattle.deeds.proofs.notices_after.Statement.{statement}
 use Rattle.deeds.proofs.notices_after.Tie as tie
@@ -12,15 +13,16 @@ enum-told-2 : tie.Need-enum-told-2
 enum-told-2 c = search needs
 
 row-now-requires : tie.Need-row-now-requires
-row-now-requires c κs = search needs
+row-now-requires c κs = omega (arith, served-low _ _ _ (c .before .before .before .pre .1), sizes _ (c .before .before .before .pre .0 .sound .0))
 
 enum-known-e : tie.Need-enum-known-e
 enum-known-e c = search needs
 
 notice-now-requires : tie.Need-notice-now-requires
 notice-now-requires c κs =
-    let start = c .before .before .before in
-    (omega (arith, start .pre .0, start .pre .1), omega (arith, start .pre .0, about-low _ _ _ _ (c .before .e .given .1) (start .pre .2)))
+    let start = c .before .before .before .before in
+    let few = sizes _ (start .pre .0 .sound .0) in
+    (omega (arith, served-low _ _ _ (start .pre .1)), omega (arith, about-low _ _ _ _ (c .before .e .given .1) (served-event _ _ _ (start .pre .1))))
 
 enum-told-3 : tie.Need-enum-told-3
 enum-told-3 c = search needs
