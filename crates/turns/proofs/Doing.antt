@@ -6,9 +6,7 @@ use Prim.Native.Nat.{ℕ, _+_, _≤_, _<_}
 use native.Mathlib.Omega.{arith}
 use native.Mathlib.Decide.{ℕ-discrete}
 use lib.Dec.{T, leb, leb→le, nleb→lt}
-use mir.Syntax.{w32}
-use mir.Val.{toZ, ofZ}
-use lib.IntN.{ℤ, pos, natAbs}
+use lib.IntN.{ℤ, natAbs}
 use lib.ListN.{length, getD, set, length-set}
 use Rattle.types.specs.declared.Server.{Server}
 use Rattle.types.specs.declared.State.{State}
@@ -16,32 +14,29 @@ use Rattle.types.specs.declared.Client.{Client}
 use Rattle.types.specs.declared.Message.{Message}
 use Rattle.types.specs.declared.Outbox.{Outbox}
 use Rattle.types.specs.declared.Step.{Step}
-use Rattle.types.specs.declared.Answer.{Answer}
 use Rattle.types.specs.declared.ServerAnswer.{ServerAnswer}
 use Rattle.types.specs.declared.ClientAnswer.{ClientAnswer}
 use Rattle.types.specs.declared.ServerEvent.{ServerEvent}
 use Rattle.types.specs.declared.ClientEvent.{ClientEvent}
-use Rattle.types.specs.declared.Deed.{Deed}
 use Rattle.types.specs.declared.Deed.the-variants.{Rests, Passes, Serves, Asks}
 use Rattle.types.specs.declared.Decision.{Decision}
 use Rattle.types.specs.declared.Facade.{Facade}
 use Rattle.types.specs.declared.World.{World}
 use Rattle.types.specs.declared.Lives.{Lives}
-use Rattle.rules.specs.Clock.{plus}
-use Rattle.rules.specs.Parts.{noServer, noClient, offsetOf, clientParty}
+use Rattle.rules.specs.Parts.{noServer, noClient, offsetOf}
 use Rattle.rules.specs.Messages.{nothing, sentBehind}
 use Rattle.rules.specs.Ranges.{inRange}
 use Rattle.rules.specs.Views.{atHand}
-use Rattle.rules.specs.Steps.{action, serverAfter, noticesAfter, clientAfter, nextAfter, movedIn, ended, enacted, step}
+use Rattle.rules.specs.Steps.{action, noticesAfter, nextAfter, movedIn, ended, enacted, step}
 use Rattle.rules.proofs.Kept.{Configured}
-use Rattle.world.specs.Apart.{facadeOf}
-use Rattle.world.proofs.Laws.{sizes, waiting-high, offset-high, offset-read, reading-high}
+use Rattle.world.specs.Apart.{facadeOf, WorldInRange}
+use Rattle.world.proofs.Laws.{sizes, waiting-high, offset-high}
 use Rattle.cable.specs.Exchange.{restOf, roomFor, exchanged}
 use Rattle.cable.specs.Places.{spanOf}
 use Rattle.cable.specs.declared.Span.{Span}
 use Rattle.cable.proofs.Laws.{rest-high}
 use Rattle.decisions.specs.Decided.{decided}
-use Rattle.deeds.specs.Deeds.{eventInRange, DeedInRange}
+use Rattle.deeds.specs.Deeds.{DeedInRange, servedIn, askedIn}
 use Rattle.facade.specs.Settled.{nextIn, noticesIn, waitingIn}
 use Rattle.facade.proofs.Laws.{Hand, decided-fits, decided-there, refused-rests, is-refused-so, out, rests-is, passes-is, serves-is, asks-is, few-served, few-asked, left-out, put-in}
 use Rattle.turns.proofs.Turns.{as-many-clients}
@@ -150,31 +145,29 @@ module _ {w : World} {ss : List Server} {ys : List Client} {ms : List Message} {
 
   -- server k
   module _ (k : ℕ) (v : ServerEvent) (i : d .happens ≡ Serves k v) where
-    pub served-fits : Configured (w .config) × (k < w .config .servers) × T (eventInRange (w .config) k v) × (k < 36)
+    pub served-fits : WorldInRange w × DeedInRange w (Serves k v)
+    served-fits = (record { servers = ss; clients = ys; messages = ms; sound = turn .hand .sound }, rw i at ready)
+
+    pub served-low : k < 4
     unfolding DeedInRange
-    served-fits = let r = rw i at ready in (c-ok, r .0, r .1, omega (arith, r .0, c-ok))
+    served-low = omega (arith, served-fits .1 .0, c-ok)
 
-    pub served-offset : toZ w32 (ofZ w32 (getD (w .offsets) k (pos 0))) ≡ getD (w .offsets) k (pos 0)
-    served-offset = offset-read (facadeOf w ss ys ms) in-range k (omega (arith, served-fits .1))
-
-    pub served-reads : plus (w .time) (getD (w .offsets) k (pos 0)) ≤ 1000001000
-    served-reads = reading-high (facadeOf w ss ys ms) in-range k (omega (arith, served-fits .1))
-
-    module _ {r : ℕ} {y : ServerAnswer} (a : r ≡ plus (w .time) (getD (w .offsets) k (pos 0))) (b : y ≡ serverAfter (w .config) (w .time) k r (getD ss k noServer) v) where
-      some : d .refusal ≡ 0
-      some = kept (λ q. let n : _≡_ {A = ℕ} 0 1 = cc in absurd (omega arith))
+    module _ {y : ServerAnswer} (b : y ≡ servedIn w k (getD ss k noServer) v) where
+      served : d .refusal ≡ 0
+      served = kept (λ q. let n : _≡_ {A = ℕ} 0 1 = cc in absurd (omega arith))
 
       pub few-sent : y .outbox .count ≤ 4
-      few-sent = rw b (few-served _ (c-ok .servers-high) _ _ _ (served-fits .1) _ v)
+      unfolding DeedInRange
+      few-sent = rw b (few-served _ (c-ok .servers-high) _ _ _ (served-fits .1 .0) _ v)
 
       module _ {g : Bool} (e : g ≡ roomFor (w .waiting) (d .taken) (y .outbox .count)) where
         pub serves-full : g ≡ false → Did w ss ys ms s 13 false w ss ys nothing 0
-        serves-full u = stays (left-out (turn .hand) (turn .is) some (ap (enacted (out w ss ys ms (s .first) (d .taken))) i ∙ serves-is w ss ys ms (s .first) (d .taken) k v a b refl) (none-left _ _ e u))
+        serves-full u = stays (left-out (turn .hand) (turn .is) served (ap (enacted (out w ss ys ms (s .first) (d .taken))) i ∙ serves-is w ss ys ms (s .first) (d .taken) k v b refl) (none-left _ _ e u))
 
         pub did-serve : g ≡ true → {ts : List ℕ} → ts ≡ noticesAfter (w .notices) (w .time) k v
             → Did w ss ys ms s (d .refusal) (d .taken) (noticesIn w ts) (set ss k (y .server)) ys (y .outbox) (y .outcome)
         did-serve u f = record {
-          answer = rw some (put-in (turn .hand) (turn .is) some (rw i (serves-is w ss ys ms (s .first) (d .taken) k v a b f)) (room-left _ _ e u));
+          answer = rw served (put-in (turn .hand) (turn .is) served (rw i (serves-is w ss ys ms (s .first) (d .taken) k v b f)) (room-left _ _ e u));
           waits = waits;
           few = few-sent;
           room = room-left _ _ e u;
@@ -185,14 +178,14 @@ module _ {w : World} {ss : List Server} {ys : List Client} {ms : List Message} {
 
   -- client k
   module _ (k : ℕ) (v : ClientEvent) (i : d .happens ≡ Asks k v) where
-    pub asked-fits : Configured (w .config) × (k < w .config .clients)
+    pub asked-fits : WorldInRange w × DeedInRange w (Asks k v)
+    asked-fits = (record { servers = ss; clients = ys; messages = ms; sound = turn .hand .sound }, rw i at ready)
+
+    pub asked-low : k < 32
     unfolding DeedInRange
-    asked-fits = (c-ok, rw i at ready)
+    asked-low = omega (arith, asked-fits .1, c-ok)
 
-    pub asked-offset : toZ w32 (ofZ w32 (getD (w .offsets) (clientParty (w .config) k) (pos 0))) ≡ getD (w .offsets) (clientParty (w .config) k) (pos 0)
-    asked-offset = offset-read (facadeOf w ss ys ms) in-range (clientParty (w .config) k) (omega (arith, asked-fits .1))
-
-    module _ {r : ℕ} {y : ClientAnswer} (a : r ≡ plus (w .time) (getD (w .offsets) (clientParty (w .config) k) (pos 0))) (b : y ≡ clientAfter (w .config) (w .next) k r ((getD ys k noClient) .state) v) where
+    module _ {y : ClientAnswer} (b : y ≡ askedIn w k (getD ys k noClient) v) where
       asked : d .refusal ≡ 0
       asked = kept (λ q. let n : _≡_ {A = ℕ} 0 1 = cc in absurd (omega arith))
 
@@ -201,12 +194,12 @@ module _ {w : World} {ss : List Server} {ys : List Client} {ms : List Message} {
 
       module _ {g : Bool} (e : g ≡ roomFor (w .waiting) (d .taken) (y .outbox .count)) where
         pub asks-full : g ≡ false → Did w ss ys ms s 13 false w ss ys nothing 0
-        asks-full u = stays (left-out (turn .hand) (turn .is) asked (ap (enacted (out w ss ys ms (s .first) (d .taken))) i ∙ asks-is w ss ys ms (s .first) (d .taken) k v a b refl) (none-left _ _ e u))
+        asks-full u = stays (left-out (turn .hand) (turn .is) asked (ap (enacted (out w ss ys ms (s .first) (d .taken))) i ∙ asks-is w ss ys ms (s .first) (d .taken) k v b refl) (none-left _ _ e u))
 
         pub did-ask : g ≡ true → {next : ℕ} → next ≡ nextAfter (w .next) v
             → Did w ss ys ms s (d .refusal) (d .taken) (nextIn w next) ss (set ys k (y .client)) (y .outbox) (y .outcome)
         did-ask u f = record {
-          answer = rw asked (put-in (turn .hand) (turn .is) asked (rw i (asks-is w ss ys ms (s .first) (d .taken) k v a b f)) (room-left _ _ e u));
+          answer = rw asked (put-in (turn .hand) (turn .is) asked (rw i (asks-is w ss ys ms (s .first) (d .taken) k v b f)) (room-left _ _ e u));
           waits = waits;
           few = few-said;
           room = room-left _ _ e u;
@@ -226,7 +219,7 @@ module _ {w : World} {ss : List Server} {ys : List Client} {ms : List Message} {
   span-fits = (it .waits, it .few, λ t. omega (arith, it .there t))
 
   pub all-put : {x : Span} → x ≡ spanOf (s .first) (w₁ .waiting) taken (o .count) → {ms₁ : List Message} → ms₁ ≡ exchanged ms (s .first) (w₁ .waiting) taken o
-      → record { refusal = n; outcome = k; facade = facadeOf (waitingIn w₁ (x .rest + o .count)) ss₁ ys₁ ms₁ } ≡ step (facadeOf w ss ys ms) s
+      → record { refusal = n; outcome = k; facade = facadeOf (waitingIn w₁ (x .waiting)) ss₁ ys₁ ms₁ } ≡ step (facadeOf w ss ys ms) s
   all-put e q = rw (q, e) (it .answer)
 
 -- the same of what the code's variables hold

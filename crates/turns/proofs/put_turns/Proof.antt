@@ -1,422 +1,314 @@
+-- The invariant: the facade is in range, what is put so far with the lines still owed is all the lines, and so for the run behind
+-- them. Those of the inner loops are cable's.
+use mathlib.Core.Path.{refl, ap, _∙_}
+use mathlib.Core.Bool.{false}
+use mathlib.Core.Logic.{⊎-elim}
+use Prim.Native.Nat.{ℕ, _-_}
+use native.Mathlib.Omega.{arith}
+use borrow.Author.Needs.{needs}
+use mir.Syntax.{w32}
+use mir.Val.{SFits}
+use mir.Facts.{toZ-ofZ}
+use lib.ListN.{getD}
+use denote.Ref.{now}
+use Rattle.rules.specs.Parts.{noClient, noMessage}
+use Rattle.world.specs.Apart.{facadeOf}
+use Rattle.world.proofs.Laws.{place-low, next-high, waiting-high}
+use Rattle.cable.proofs.Laws.{Moving, moving-span, moving-high, moving-up, moving-done, Sending, sending-start, sending-more}
+use Rattle.turns.specs.Turns.{linesFrom, progressFrom}
+use Rattle.turns.proofs.Turns.{as-read, whether-ended, Going, none-left, last-put, goes-round, done}
+use Rattle.turns.proofs.Doing.{Did, Turn, c-ok, did-rest, passed-fits, did-pass, served-fits, served-low, few-sent, serves-full, did-serve, asked-fits, asked-low, few-said, asks-full, did-ask, asked-of, span-fits, all-put, held-by}
 use Rattle.turns.proofs.put_turns.Statement.{statement}
 use Rattle.turns.proofs.put_turns.Tie as tie
-use Rattle.turns.proofs.put_turns.Reads as reads
-use Rattle.turns.proofs.put_turns.Lts as lts
-use Rattle.arith.proofs.reading.Reads as reading-reads
-use Rattle.cable.proofs.has_room.Reads as has-room-reads
-use Rattle.cable.proofs.message_sent.Reads as message-sent-reads
-use Rattle.cable.proofs.span_of.Reads as span-of-reads
-use Rattle.clocks.proofs.end_holds.Reads as end-holds-reads
-use Rattle.clocks.proofs.move_on.Reads as move-on-reads
-use Rattle.decisions.proofs.decided.Reads as decided-reads
-use Rattle.deeds.proofs.client_after.Reads as client-after-reads
-use Rattle.deeds.proofs.next_after.Reads as next-after-reads
-use Rattle.deeds.proofs.notices_after.Reads as notices-after-reads
-use Rattle.deeds.proofs.server_after.Reads as server-after-reads
-use Rattle.facade.proofs.held_among.Reads as held-among-reads
-use Rattle.outbox.proofs.nothing.Reads as nothing-reads
-use Rattle.report.proofs.put_record_line.Reads as put-record-line-reads
-use Rattle.script.proofs.record_at.Reads as record-at-reads
-use Rattle.steps.proofs.action_of.Reads as action-of-reads
-use Rattle.turns.proofs.piece_of.Reads as piece-of-reads
-use Rattle.turns.proofs.put_last_lines.Reads as put-last-lines-reads
-use Rattle.world.proofs.lives_of.Reads as lives-of-reads
-use Rattle.world.proofs.place_below.Reads as place-below-reads
-use Rattle.world.proofs.world_of.Reads as world-of-reads
 
 abbrev Inv-loop2 : tie.InvT-loop2
-Inv-loop2 s out start most w ss ys ms₀ at p k left d from near refusal taken sent outcome to q₀ ms q =
-    ?
+Inv-loop2 s out start most w ss ys ms₀ at p k left d from near refusal taken sent outcome to rest last q₀ ms q = Moving ms₀ (d .step .first) (w .waiting) taken sent rest last q ms
 
 abbrev μ-loop2 : tie.MeasureT-loop2
-μ-loop2 s out start most w ss ys ms₀ at p k left d from near refusal taken sent outcome to q₀ ms q =
-    ?
+μ-loop2 s out start most w ss ys ms₀ at p k left d from near refusal taken sent outcome to rest last q₀ ms q = rest - q
 
 abbrev Inv-loop3 : tie.InvT-loop3
-Inv-loop3 s out start most w ss ys ms₀ at p k left d from near refusal taken sent outcome to q₀ ms q =
-    ?
+Inv-loop3 s out start most w ss ys ms₀ at p k left d from near refusal taken sent outcome to rest last q₀ ms q = Sending (d .step .first) (w .waiting) taken sent rest last q₀ ms₀ q ms
 
 abbrev μ-loop3 : tie.MeasureT-loop3
-μ-loop3 s out start most w ss ys ms₀ at p k left d from near refusal taken sent outcome to q₀ ms q =
-    ?
+μ-loop3 s out start most w ss ys ms₀ at p k left d from near refusal taken sent outcome to rest last q₀ ms q = last - q
 
 abbrev Inv-loop : tie.InvT-loop
-Inv-loop s out₀ start most w₀ ss₀ ys₀ ms₀ at₀ p₀ k₀ left₀ out w ss ys ms at p k left = ?
+Inv-loop s out₀ start most w₀ ss₀ ys₀ ms₀ at₀ p₀ k₀ left₀ out w ss ys ms at p k left =
+    let f = facadeOf w₀ ss₀ ys₀ ms₀ in
+    Going s out₀ (linesFrom most f s p₀ k₀) start (progressFrom most f s p₀ k₀) out w ss ys ms at p k left
 
+-- the turns that are left
 abbrev μ-loop : tie.MeasureT-loop
-μ-loop s out₀ start most w₀ ss₀ ys₀ ms₀ at₀ p₀ k₀ left₀ out w ss ys ms at p k left = ?
+μ-loop s out₀ start most w₀ ss₀ ys₀ ms₀ at₀ p₀ k₀ left₀ out w ss ys ms at p k left = left
 
--- src/lib.rt:101:17
 world-of-requires : tie.Need-world-of-requires Inv-loop2 μ-loop2 Inv-loop3 μ-loop3 Inv-loop μ-loop
-world-of-requires c κs = ?
+world-of-requires c κs = tt
 
--- src/lib.rt:109:5
 loop-holds : tie.Need-loop-holds Inv-loop2 μ-loop2 Inv-loop3 μ-loop3 Inv-loop μ-loop
-loop-holds c = ?
+loop-holds c = rw (c .before .before .before .world-of .ensures) (record { way = whether-ended _ (c .before .before .before .before .before .before .before .args .r) false (c .before .before .before .before .before .before .before .pre .0); same = refl; owed = (refl, refl); run = refl; room = c .before .before .before .before .before .before .before .pre .1 })
 
--- src/lib.rt:110:13
-record-at-requires :
-    tie.Need-record-at-requires Inv-loop2 μ-loop2 Inv-loop3 μ-loop3 Inv-loop μ-loop
-record-at-requires c κs = ?
+record-at-requires : tie.Need-record-at-requires Inv-loop2 μ-loop2 Inv-loop3 μ-loop3 Inv-loop μ-loop
+record-at-requires c κs = tt
 
--- src/lib.rt:112:83
-held-among-requires :
-    tie.Need-held-among-requires Inv-loop2 μ-loop2 Inv-loop3 μ-loop3 Inv-loop μ-loop
-held-among-requires c κs = ?
+put-last-lines-requires : tie.Need-put-last-lines-requires Inv-loop2 μ-loop2 Inv-loop3 μ-loop3 Inv-loop μ-loop
+put-last-lines-requires c κs =
+    let l = c .before .before .before .before .before .loop in
+    (omega (arith, l .inv .owed .0, l .inv .same, l .inv .room), omega (arith, l .inv .way .counted, l .inv .way .placed), waiting-high _ (l .inv .way .sound .0))
 
--- src/lib.rt:112:17
-put-last-lines-requires :
-    tie.Need-put-last-lines-requires Inv-loop2 μ-loop2 Inv-loop3 μ-loop3 Inv-loop μ-loop
-put-last-lines-requires c κs = ?
-
--- src/lib.rt:113:13
 piece-of-requires : tie.Need-piece-of-requires Inv-loop2 μ-loop2 Inv-loop3 μ-loop3 Inv-loop μ-loop
-piece-of-requires c κs = ?
+piece-of-requires c κs = tt
 
--- src/lib.rt:113:13
 same-length : tie.Need-same-length Inv-loop2 μ-loop2 Inv-loop3 μ-loop3 Inv-loop μ-loop
-same-length c = ?
+same-length c = omega (arith, c .before .before .out .given, c .before .before .before .before .before .before .before .before .before .loop .inv .same)
 
--- src/lib.rt:113:13
 returns : tie.Need-returns Inv-loop2 μ-loop2 Inv-loop3 μ-loop3 Inv-loop μ-loop
-returns c = ?
+returns c =
+    let l = c .before .before .before .before .before .before .before .before .before .loop in
+    done _ _ (now (c .before .before .before .before .before .before .before .before .before .before .before .before .before .before .before .before .before .args .s)) (c .before .before .before .before .before .before .before .before .before .before .before .before .before .before .before .before .before .args .start) (c .before .before .before .before .before .before .before .before .before .before .before .before .before .before .before .before .before .args .most) (c .before .before .before .before .before .before .before .before .before .before .before .before .before .before .before .before .before .args .r) (c .before .before .before .before .before .before .before .before .before .before .before .before .before .world-of .result) (c .before .before .before .before .before .before .before .before .before .before .before .before .before .world-of .ensures) (c .piece-of .result)
+    (last-put (l .inv) (l .left - 1) (omega (arith, c .before .before .before .before .before .before .before .before .loop-test .taken)) _ (c .before .before .before .before .before .before .before .record-at .ensures) (c .before .before .before .before .before .if1 .taken) _ refl (c .before .before .before .put-last-lines .ensures) _ (c .piece-of .ensures))
 
--- src/lib.rt:115:9
 sub-left : tie.Need-sub-left Inv-loop2 μ-loop2 Inv-loop3 μ-loop3 Inv-loop μ-loop
-sub-left c = ?
+sub-left c = c .before .before .before .loop-test .taken
 
--- src/lib.rt:117:13
-place-below-requires :
-    tie.Need-place-below-requires Inv-loop2 μ-loop2 Inv-loop3 μ-loop3 Inv-loop μ-loop
-place-below-requires c κs = ?
+place-below-requires : tie.Need-place-below-requires Inv-loop2 μ-loop2 Inv-loop3 μ-loop3 Inv-loop μ-loop
+place-below-requires c κs = tt
 
--- src/lib.rt:118:17
-mul-m : tie.Need-mul-m Inv-loop2 μ-loop2 Inv-loop3 μ-loop3 Inv-loop μ-loop
-mul-m c = ?
+place-below-requires-2 : tie.Need-place-below-requires-2 Inv-loop2 μ-loop2 Inv-loop3 μ-loop3 Inv-loop μ-loop
+place-below-requires-2 c κs = tt
 
--- src/lib.rt:118:17
-array-copy-out-m : tie.Need-array-copy-out-m Inv-loop2 μ-loop2 Inv-loop3 μ-loop3 Inv-loop μ-loop
-array-copy-out-m c = ?
-
--- src/lib.rt:119:13
-place-below-requires-2 :
-    tie.Need-place-below-requires-2 Inv-loop2 μ-loop2 Inv-loop3 μ-loop3 Inv-loop μ-loop
-place-below-requires-2 c κs = ?
-
--- src/lib.rt:120:17
 mul-y : tie.Need-mul-y Inv-loop2 μ-loop2 Inv-loop3 μ-loop3 Inv-loop μ-loop
-mul-y c = ?
+mul-y c = omega (arith, place-low 32 _ _ (omega arith) (c .place-below2 .ensures))
 
--- src/lib.rt:120:17
 array-copy-out-y : tie.Need-array-copy-out-y Inv-loop2 μ-loop2 Inv-loop3 μ-loop3 Inv-loop μ-loop
-array-copy-out-y c = ?
+array-copy-out-y c = omega (arith, place-low 32 _ _ (omega arith) (c .place-below2 .ensures), c .before .before .before .before .before .before .before .loop .inv .way .clients)
 
--- src/lib.rt:122:39
 lives-of-requires : tie.Need-lives-of-requires Inv-loop2 μ-loop2 Inv-loop3 μ-loop3 Inv-loop μ-loop
-lives-of-requires c κs = ?
+lives-of-requires c κs = tt
 
--- src/lib.rt:122:63
-action-of-requires :
-    tie.Need-action-of-requires Inv-loop2 μ-loop2 Inv-loop3 μ-loop3 Inv-loop μ-loop
-action-of-requires c κs = ?
+mul-decided : tie.Need-mul-decided Inv-loop2 μ-loop2 Inv-loop3 μ-loop3 Inv-loop μ-loop
+mul-decided c = omega (arith, place-low 128 _ _ (omega arith) (c .before .before .before .place-below .ensures))
 
--- src/lib.rt:122:13
+array-copy-out-decided : tie.Need-array-copy-out-decided Inv-loop2 μ-loop2 Inv-loop3 μ-loop3 Inv-loop μ-loop
+array-copy-out-decided c = omega (arith, place-low 128 _ _ (omega arith) (c .before .before .before .place-below .ensures), c .before .before .before .before .before .before .before .before .before .loop .inv .way .sound .1)
+
+action-of-requires : tie.Need-action-of-requires Inv-loop2 μ-loop2 Inv-loop3 μ-loop3 Inv-loop μ-loop
+action-of-requires c κs = tt
+
 decided-requires : tie.Need-decided-requires Inv-loop2 μ-loop2 Inv-loop3 μ-loop3 Inv-loop μ-loop
-decided-requires c κs = ?
+decided-requires c κs =
+    let l = c .before .before .before .before .before .before .before .before .before .before .before .loop in
+    (record { servers = l .ss; clients = l .ys; messages = l .ms; sound = l .inv .way .sound }, as-read _ _ _ (c .before .before .before .before .before .before .before .before .before .record-at .ensures) (c .before .before .before .before .before .before .before .if1 .left) _ (c .action-of .ensures))
 
--- src/lib.rt:125:24
+-- what is decided
+turn : (c : tie.After-decided Inv-loop2 μ-loop2 Inv-loop3 μ-loop3 Inv-loop μ-loop) → let l = c .before .before .before .before .before .before .before .before .before .before .before .before .loop in Turn (l .w) (l .ss) (l .ys) (l .ms) (c .before .before .before .before .before .before .before .before .before .before .record-at .result .step) (c .decided .result)
+turn c =
+    let l = c .before .before .before .before .before .before .before .before .before .before .before .before .loop in
+    record {
+      l = c .before .before .before .lives-of .result;
+      m = getD (l .ms) (c .before .before .before .before .before .before .place-below .result) noMessage;
+      x = (getD (l .ys) (c .before .before .before .before .before .place-below2 .result) noClient) .state;
+      hand = record {
+        sound = l .inv .way .sound;
+        lives = c .before .before .before .lives-of .ensures;
+        message = ap (λ (j : ℕ). getD (l .ms) j noMessage) (c .before .before .before .before .before .before .place-below .ensures);
+        state = ap (λ (j : ℕ). (getD (l .ys) j noClient) .state) (c .before .before .before .before .before .place-below2 .ensures);
+      };
+      is = rw (c .before .action-of .ensures) at (c .decided .ensures);
+    }
+
 nothing-requires : tie.Need-nothing-requires Inv-loop2 μ-loop2 Inv-loop3 μ-loop3 Inv-loop μ-loop
-nothing-requires c κs = ?
+nothing-requires c κs = tt
 
 enum-told : tie.Need-enum-told Inv-loop2 μ-loop2 Inv-loop3 μ-loop3 Inv-loop μ-loop
-enum-told c = ?
+enum-told c = search needs
 
--- src/lib.rt:130:26
-enum-known-happens :
-    tie.Need-enum-known-happens Inv-loop2 μ-loop2 Inv-loop3 μ-loop3 Inv-loop μ-loop
-enum-known-happens c = ?
+enum-known-happens : tie.Need-enum-known-happens Inv-loop2 μ-loop2 Inv-loop3 μ-loop3 Inv-loop μ-loop
+enum-known-happens c = search needs
 
--- src/lib.rt:131:21
 move-on-requires : tie.Need-move-on-requires Inv-loop2 μ-loop2 Inv-loop3 μ-loop3 Inv-loop μ-loop
-move-on-requires c κs = ?
+move-on-requires c κs =
+    let fit : SFits w32 (c .before .happens .given .0 .1 .1 .0) = search needs in
+    rw (toZ-ofZ fit) (passed-fits (turn (c .before .before .before .before)) _ _ _ (c .before .happens .given .1))
 
--- src/lib.rt:132:21
-end-holds-requires :
-    tie.Need-end-holds-requires Inv-loop2 μ-loop2 Inv-loop3 μ-loop3 Inv-loop μ-loop
-end-holds-requires c κs = ?
+end-holds-requires : tie.Need-end-holds-requires Inv-loop2 μ-loop2 Inv-loop3 μ-loop3 Inv-loop μ-loop
+end-holds-requires c κs = rw (c .move-on .ensures) (c-ok (turn (c .before .before .before .before .before)), (passed-fits (turn (c .before .before .before .before .before)) _ _ _ (c .before .before .happens .given .1)) .0)
 
--- src/lib.rt:136:26
-enum-known-happens-2 :
-    tie.Need-enum-known-happens-2 Inv-loop2 μ-loop2 Inv-loop3 μ-loop3 Inv-loop μ-loop
-enum-known-happens-2 c = ?
+enum-known-happens-2 : tie.Need-enum-known-happens-2 Inv-loop2 μ-loop2 Inv-loop3 μ-loop3 Inv-loop μ-loop
+enum-known-happens-2 c = search needs
 
--- src/lib.rt:137:29
 cast-place : tie.Need-cast-place Inv-loop2 μ-loop2 Inv-loop3 μ-loop3 Inv-loop μ-loop
-cast-place c = ?
+cast-place c = omega (arith, served-low (turn (c .before .before .before .before)) _ _ (c .before .happens2 .given .1))
 
--- src/lib.rt:139:41
-mul-reading : tie.Need-mul-reading Inv-loop2 μ-loop2 Inv-loop3 μ-loop3 Inv-loop μ-loop
-mul-reading c = ?
+mul-served-in : tie.Need-mul-served-in Inv-loop2 μ-loop2 Inv-loop3 μ-loop3 Inv-loop μ-loop
+mul-served-in c = omega (arith, served-low (turn (c .before .before .before .before)) _ _ (c .before .happens2 .given .1))
 
--- src/lib.rt:139:41
-element-copy-out-reading :
-    tie.Need-element-copy-out-reading Inv-loop2 μ-loop2 Inv-loop3 μ-loop3 Inv-loop μ-loop
-element-copy-out-reading c = ?
+array-copy-out-served-in : tie.Need-array-copy-out-served-in Inv-loop2 μ-loop2 Inv-loop3 μ-loop3 Inv-loop μ-loop
+array-copy-out-served-in c = omega (arith, served-low (turn (c .before .before .before .before)) _ _ (c .before .happens2 .given .1), c .before .before .before .before .before .before .before .before .before .before .before .before .before .before .before .before .loop .inv .way .servers)
 
--- src/lib.rt:139:21
-reading-requires : tie.Need-reading-requires Inv-loop2 μ-loop2 Inv-loop3 μ-loop3 Inv-loop μ-loop
-reading-requires c κs = ?
+served-in-requires : tie.Need-served-in-requires Inv-loop2 μ-loop2 Inv-loop3 μ-loop3 Inv-loop μ-loop
+served-in-requires c κs = served-fits (turn (c .before .before .before .before .before)) _ _ (c .before .before .happens2 .given .1)
 
--- src/lib.rt:140:55
-mul-server-after : tie.Need-mul-server-after Inv-loop2 μ-loop2 Inv-loop3 μ-loop3 Inv-loop μ-loop
-mul-server-after c = ?
-
--- src/lib.rt:140:55
-array-copy-out-server-after :
-    tie.Need-array-copy-out-server-after Inv-loop2 μ-loop2 Inv-loop3 μ-loop3 Inv-loop μ-loop
-array-copy-out-server-after c = ?
-
--- src/lib.rt:140:21
-server-after-requires :
-    tie.Need-server-after-requires Inv-loop2 μ-loop2 Inv-loop3 μ-loop3 Inv-loop μ-loop
-server-after-requires c κs = ?
-
--- src/lib.rt:142:20
 has-room-requires : tie.Need-has-room-requires Inv-loop2 μ-loop2 Inv-loop3 μ-loop3 Inv-loop μ-loop
-has-room-requires c κs = ?
+has-room-requires c κs = asked-of (turn (c .before .before .before .before .before .before .before)) (few-sent (turn (c .before .before .before .before .before .before .before)) _ _ (c .before .before .before .before .happens2 .given .1) (c .before .served-in .ensures))
 
--- src/lib.rt:144:21
 mul-ss : tie.Need-mul-ss Inv-loop2 μ-loop2 Inv-loop3 μ-loop3 Inv-loop μ-loop
-mul-ss c = ?
+mul-ss c = omega (arith, served-low (turn (c .before .before .before .before .before .before .before .before .before .before)) _ _ (c .before .before .before .before .before .before .before .happens2 .given .1))
 
--- src/lib.rt:144:21
 array-set-from-ss : tie.Need-array-set-from-ss Inv-loop2 μ-loop2 Inv-loop3 μ-loop3 Inv-loop μ-loop
-array-set-from-ss c = ?
+array-set-from-ss c = omega (arith, served-low (turn (c .before .before .before .before .before .before .before .before .before .before)) _ _ (c .before .before .before .before .before .before .before .happens2 .given .1), c .before .before .before .before .before .before .before .before .before .before .before .before .before .before .before .before .before .before .before .before .before .before .loop .inv .way .servers)
 
--- src/lib.rt:146:25
-notices-after-requires :
-    tie.Need-notices-after-requires Inv-loop2 μ-loop2 Inv-loop3 μ-loop3 Inv-loop μ-loop
-notices-after-requires c κs = ?
+notices-after-requires : tie.Need-notices-after-requires Inv-loop2 μ-loop2 Inv-loop3 μ-loop3 Inv-loop μ-loop
+notices-after-requires c κs = served-fits (turn (c .before .before .before .before .before .before .before .before .before .before)) _ _ (c .before .before .before .before .before .before .before .happens2 .given .1)
 
--- src/lib.rt:155:24
-enum-known-happens-3 :
-    tie.Need-enum-known-happens-3 Inv-loop2 μ-loop2 Inv-loop3 μ-loop3 Inv-loop μ-loop
-enum-known-happens-3 c = ?
+enum-known-happens-3 : tie.Need-enum-known-happens-3 Inv-loop2 μ-loop2 Inv-loop3 μ-loop3 Inv-loop μ-loop
+enum-known-happens-3 c = search needs
 
--- src/lib.rt:156:29
 cast-place-2 : tie.Need-cast-place-2 Inv-loop2 μ-loop2 Inv-loop3 μ-loop3 Inv-loop μ-loop
-cast-place-2 c = ?
+cast-place-2 c = omega (arith, asked-low (turn (c .before .before .before .before)) _ _ (c .before .happens3 .given .1))
 
--- src/lib.rt:158:30
-add-party : tie.Need-add-party Inv-loop2 μ-loop2 Inv-loop3 μ-loop3 Inv-loop μ-loop
-add-party c = ?
+mul-asked-in : tie.Need-mul-asked-in Inv-loop2 μ-loop2 Inv-loop3 μ-loop3 Inv-loop μ-loop
+mul-asked-in c = omega (arith, asked-low (turn (c .before .before .before .before)) _ _ (c .before .happens3 .given .1))
 
--- src/lib.rt:158:29
-cast-party : tie.Need-cast-party Inv-loop2 μ-loop2 Inv-loop3 μ-loop3 Inv-loop μ-loop
-cast-party c = ?
+array-copy-out-asked-in : tie.Need-array-copy-out-asked-in Inv-loop2 μ-loop2 Inv-loop3 μ-loop3 Inv-loop μ-loop
+array-copy-out-asked-in c = omega (arith, asked-low (turn (c .before .before .before .before)) _ _ (c .before .happens3 .given .1), c .before .before .before .before .before .before .before .before .before .before .before .before .before .before .before .before .loop .inv .way .clients)
 
--- src/lib.rt:159:25
-mul-y-2 : tie.Need-mul-y-2 Inv-loop2 μ-loop2 Inv-loop3 μ-loop3 Inv-loop μ-loop
-mul-y-2 c = ?
+asked-in-requires : tie.Need-asked-in-requires Inv-loop2 μ-loop2 Inv-loop3 μ-loop3 Inv-loop μ-loop
+asked-in-requires c κs = asked-fits (turn (c .before .before .before .before .before)) _ _ (c .before .before .happens3 .given .1)
 
--- src/lib.rt:159:25
-array-copy-out-y-2 :
-    tie.Need-array-copy-out-y-2 Inv-loop2 μ-loop2 Inv-loop3 μ-loop3 Inv-loop μ-loop
-array-copy-out-y-2 c = ?
+has-room-requires-2 : tie.Need-has-room-requires-2 Inv-loop2 μ-loop2 Inv-loop3 μ-loop3 Inv-loop μ-loop
+has-room-requires-2 c κs = asked-of (turn (c .before .before .before .before .before .before .before)) (few-said (turn (c .before .before .before .before .before .before .before)) _ _ (c .before .before .before .before .happens3 .given .1) (c .before .asked-in .ensures))
 
--- src/lib.rt:161:68
-mul-reading-2 : tie.Need-mul-reading-2 Inv-loop2 μ-loop2 Inv-loop3 μ-loop3 Inv-loop μ-loop
-mul-reading-2 c = ?
-
--- src/lib.rt:161:68
-element-copy-out-reading-2 :
-    tie.Need-element-copy-out-reading-2 Inv-loop2 μ-loop2 Inv-loop3 μ-loop3 Inv-loop μ-loop
-element-copy-out-reading-2 c = ?
-
--- src/lib.rt:161:52
-reading-requires-2 :
-    tie.Need-reading-requires-2 Inv-loop2 μ-loop2 Inv-loop3 μ-loop3 Inv-loop μ-loop
-reading-requires-2 c κs = ?
-
--- src/lib.rt:161:21
-client-after-requires :
-    tie.Need-client-after-requires Inv-loop2 μ-loop2 Inv-loop3 μ-loop3 Inv-loop μ-loop
-client-after-requires c κs = ?
-
--- src/lib.rt:163:20
-has-room-requires-2 :
-    tie.Need-has-room-requires-2 Inv-loop2 μ-loop2 Inv-loop3 μ-loop3 Inv-loop μ-loop
-has-room-requires-2 c κs = ?
-
--- src/lib.rt:165:21
 mul-ys : tie.Need-mul-ys Inv-loop2 μ-loop2 Inv-loop3 μ-loop3 Inv-loop μ-loop
-mul-ys c = ?
+mul-ys c = omega (arith, asked-low (turn (c .before .before .before .before .before .before .before .before .before .before)) _ _ (c .before .before .before .before .before .before .before .happens3 .given .1))
 
--- src/lib.rt:165:21
 array-set-from-ys : tie.Need-array-set-from-ys Inv-loop2 μ-loop2 Inv-loop3 μ-loop3 Inv-loop μ-loop
-array-set-from-ys c = ?
+array-set-from-ys c = omega (arith, asked-low (turn (c .before .before .before .before .before .before .before .before .before .before)) _ _ (c .before .before .before .before .before .before .before .happens3 .given .1), c .before .before .before .before .before .before .before .before .before .before .before .before .before .before .before .before .before .before .before .before .before .before .loop .inv .way .clients)
 
--- src/lib.rt:166:30
-next-after-requires :
-    tie.Need-next-after-requires Inv-loop2 μ-loop2 Inv-loop3 μ-loop3 Inv-loop μ-loop
-next-after-requires c κs = ?
+next-after-requires : tie.Need-next-after-requires Inv-loop2 μ-loop2 Inv-loop3 μ-loop3 Inv-loop μ-loop
+next-after-requires c κs = next-high _ (c .before .before .before .before .before .before .before .before .before .before .before .before .before .before .before .before .before .before .before .before .before .before .loop .inv .way .sound .0)
 
--- src/lib.rt:175:13
+-- what was done, by which way the code came
+did : (c : tie.At-match-came Inv-loop2 μ-loop2 Inv-loop3 μ-loop3 Inv-loop μ-loop)
+    → let l = c .before .before .before .before .before .before .before .before .before .before .before .before .before .before .loop in
+    Did (l .w) (l .ss) (l .ys) (l .ms) (c .before .before .before .before .before .before .before .before .before .before .before .before .record-at .result .step) (c .match .refusal) (c .match .taken) (c .match .w) (c .match .ss) (c .match .ys) (c .match .sent) (c .match .outcome)
+did c =
+    let it = turn (c .before .before) in
+    let none = c .before .nothing .ensures in
+    ⊎-elim (λ v. held-by (did-rest it (v .1 .given .1)) (v .5) (v .6) (v .2) (v .3) (v .4) (v .7 ∙ none) (v .8))
+    (⊎-elim
+    (λ v. let fit : SFits w32 (v .1 .given .0 .1 .1 .0) = search needs in
+    held-by (did-pass it _ _ _ (v .1 .given .1) (rw (toZ-ofZ fit) at (v .3 .ensures)) (v .4 .ensures)) (v .8) (v .9) (v .5) (v .6) (v .7) (v .10 ∙ none) (v .11))
+    (⊎-elim (λ v. held-by (did-serve it _ _ (v .1 .given .1) (v .4 .ensures) (v .6 .ensures) (v .7 .taken) (v .9 .ensures)) (v .13) (v .14) (v .10) (v .11) (v .12) (v .15) (v .16))
+    (⊎-elim (λ v. held-by (serves-full it _ _ (v .1 .given .1) (v .4 .ensures) (v .6 .ensures) (v .7 .left)) (v .11) (v .12) (v .8) (v .9) (v .10) (v .13 ∙ none) (v .14))
+    (⊎-elim (λ v. held-by (did-ask it _ _ (v .1 .given .1) (v .4 .ensures) (v .6 .ensures) (v .7 .taken) (v .9 .ensures)) (v .13) (v .14) (v .10) (v .11) (v .12) (v .15) (v .16))
+    (λ v. held-by (asks-full it _ _ (v .1 .given .1) (v .4 .ensures) (v .6 .ensures) (v .7 .left)) (v .11) (v .12) (v .8) (v .9) (v .10) (v .13 ∙ none) (v .14))))))
+    (c .match .came)
+
 span-of-requires : tie.Need-span-of-requires Inv-loop2 μ-loop2 Inv-loop3 μ-loop3 Inv-loop μ-loop
-span-of-requires c κs = ?
+span-of-requires c κs = span-fits (did c)
 
--- src/lib.rt:177:9
 loop2-holds : tie.Need-loop2-holds Inv-loop2 μ-loop2 Inv-loop3 μ-loop3 Inv-loop μ-loop
-loop2-holds c = ?
+loop2-holds c =
+    let it = did (c .before) in
+    moving-span (c .before .before .before .before .before .before .before .before .before .before .before .before .before .before .before .loop .inv .way .sound .1) (it .waits) (it .there) (c .span-of .ensures)
 
--- src/lib.rt:178:22
-cast-to : tie.Need-cast-to Inv-loop2 μ-loop2 Inv-loop3 μ-loop3 Inv-loop μ-loop
-cast-to c = ?
+add-ms : tie.Need-add-ms Inv-loop2 μ-loop2 Inv-loop3 μ-loop3 Inv-loop μ-loop
+add-ms c = omega (arith, moving-high (c .before .loop2 .inv) (c .loop2-test .taken), c .before .loop2 .inv .size, c .loop2-test .taken)
 
--- src/lib.rt:179:28
-add-above : tie.Need-add-above Inv-loop2 μ-loop2 Inv-loop3 μ-loop3 Inv-loop μ-loop
-add-above c = ?
-
--- src/lib.rt:179:25
-mul-above : tie.Need-mul-above Inv-loop2 μ-loop2 Inv-loop3 μ-loop3 Inv-loop μ-loop
-mul-above c = ?
-
--- src/lib.rt:179:25
-array-copy-out-above :
-    tie.Need-array-copy-out-above Inv-loop2 μ-loop2 Inv-loop3 μ-loop3 Inv-loop μ-loop
-array-copy-out-above c = ?
-
--- src/lib.rt:180:13
 mul-ms : tie.Need-mul-ms Inv-loop2 μ-loop2 Inv-loop3 μ-loop3 Inv-loop μ-loop
-mul-ms c = ?
+mul-ms c = omega (arith, moving-high (c .before .loop2 .inv) (c .loop2-test .taken), c .before .loop2 .inv .size, c .loop2-test .taken)
 
--- src/lib.rt:180:13
-array-set-from-ms : tie.Need-array-set-from-ms Inv-loop2 μ-loop2 Inv-loop3 μ-loop3 Inv-loop μ-loop
-array-set-from-ms c = ?
+array-copy-out-ms : tie.Need-array-copy-out-ms Inv-loop2 μ-loop2 Inv-loop3 μ-loop3 Inv-loop μ-loop
+array-copy-out-ms c = omega (arith, moving-high (c .before .loop2 .inv) (c .loop2-test .taken), c .before .loop2 .inv .size, c .loop2-test .taken)
 
--- src/lib.rt:181:13
-add-q : tie.Need-add-q Inv-loop2 μ-loop2 Inv-loop3 μ-loop3 Inv-loop μ-loop
-add-q c = ?
-
--- src/lib.rt:177:9
-loop2-less : tie.Need-loop2-less Inv-loop2 μ-loop2 Inv-loop3 μ-loop3 Inv-loop μ-loop
-loop2-less c = ?
-
--- src/lib.rt:177:9
-loop2-again : tie.Need-loop2-again Inv-loop2 μ-loop2 Inv-loop3 μ-loop3 Inv-loop μ-loop
-loop2-again c = ?
-
--- src/lib.rt:183:9
-loop3-holds : tie.Need-loop3-holds Inv-loop2 μ-loop2 Inv-loop3 μ-loop3 Inv-loop μ-loop
-loop3-holds c = ?
-
--- src/lib.rt:184:26
-sub-behind : tie.Need-sub-behind Inv-loop2 μ-loop2 Inv-loop3 μ-loop3 Inv-loop μ-loop
-sub-behind c = ?
-
--- src/lib.rt:185:24
-cast-from : tie.Need-cast-from Inv-loop2 μ-loop2 Inv-loop3 μ-loop3 Inv-loop μ-loop
-cast-from c = ?
-
--- src/lib.rt:186:23
-mul-one : tie.Need-mul-one Inv-loop2 μ-loop2 Inv-loop3 μ-loop3 Inv-loop μ-loop
-mul-one c = ?
-
--- src/lib.rt:186:23
-element-copy-out-one :
-    tie.Need-element-copy-out-one Inv-loop2 μ-loop2 Inv-loop3 μ-loop3 Inv-loop μ-loop
-element-copy-out-one c = ?
-
--- src/lib.rt:187:22
-cast-to-2 : tie.Need-cast-to-2 Inv-loop2 μ-loop2 Inv-loop3 μ-loop3 Inv-loop μ-loop
-cast-to-2 c = ?
-
--- src/lib.rt:188:22
-message-sent-requires :
-    tie.Need-message-sent-requires Inv-loop2 μ-loop2 Inv-loop3 μ-loop3 Inv-loop μ-loop
-message-sent-requires c κs = ?
-
--- src/lib.rt:188:13
 mul-ms-2 : tie.Need-mul-ms-2 Inv-loop2 μ-loop2 Inv-loop3 μ-loop3 Inv-loop μ-loop
-mul-ms-2 c = ?
+mul-ms-2 c = omega (arith, moving-high (c .before .before .loop2 .inv) (c .before .loop2-test .taken), c .before .before .loop2 .inv .size, c .before .loop2-test .taken)
 
--- src/lib.rt:188:13
-array-set-from-ms-2 :
-    tie.Need-array-set-from-ms-2 Inv-loop2 μ-loop2 Inv-loop3 μ-loop3 Inv-loop μ-loop
-array-set-from-ms-2 c = ?
+array-set-from-ms : tie.Need-array-set-from-ms Inv-loop2 μ-loop2 Inv-loop3 μ-loop3 Inv-loop μ-loop
+array-set-from-ms c = omega (arith, moving-high (c .before .before .loop2 .inv) (c .before .loop2-test .taken), c .before .before .loop2 .inv .size, c .before .loop2-test .taken)
 
--- src/lib.rt:189:13
+add-q : tie.Need-add-q Inv-loop2 μ-loop2 Inv-loop3 μ-loop3 Inv-loop μ-loop
+add-q c = omega (arith, moving-high (c .before .before .loop2 .inv) (c .before .loop2-test .taken), c .before .before .loop2 .inv .size, c .before .loop2-test .taken)
+
+loop2-less : tie.Need-loop2-less Inv-loop2 μ-loop2 Inv-loop3 μ-loop3 Inv-loop μ-loop
+loop2-less c = omega (arith, moving-high (c .before .before .loop2 .inv) (c .before .loop2-test .taken), c .before .before .loop2 .inv .size, c .before .loop2-test .taken)
+
+loop2-again : tie.Need-loop2-again Inv-loop2 μ-loop2 Inv-loop3 μ-loop3 Inv-loop μ-loop
+loop2-again c = moving-up (c .before .before .loop2 .inv) (c .before .loop2-test .taken)
+
+loop3-holds : tie.Need-loop3-holds Inv-loop2 μ-loop2 Inv-loop3 μ-loop3 Inv-loop μ-loop
+loop3-holds c = sending-start (c .loop2-test .left)
+
+sub-message-sent : tie.Need-sub-message-sent Inv-loop2 μ-loop2 Inv-loop3 μ-loop3 Inv-loop μ-loop
+sub-message-sent c = c .before .loop3 .inv .behind
+
+message-sent-requires : tie.Need-message-sent-requires Inv-loop2 μ-loop2 Inv-loop3 μ-loop3 Inv-loop μ-loop
+message-sent-requires c κs = (did (c .before .before .before .before .before)) .few
+
+mul-ms-3 : tie.Need-mul-ms-3 Inv-loop2 μ-loop2 Inv-loop3 μ-loop3 Inv-loop μ-loop
+mul-ms-3 c = omega (arith, c .before .loop3-test .taken, c .before .before .before .before .loop2 .inv .end, (c .before .before .loop3 .inv .on (c .before .before .before .before .loop2 .inv)) .size)
+
+array-set-from-ms-2 : tie.Need-array-set-from-ms-2 Inv-loop2 μ-loop2 Inv-loop3 μ-loop3 Inv-loop μ-loop
+array-set-from-ms-2 c = omega (arith, c .before .loop3-test .taken, c .before .before .before .before .loop2 .inv .end, (c .before .before .loop3 .inv .on (c .before .before .before .before .loop2 .inv)) .size)
+
 add-q-2 : tie.Need-add-q-2 Inv-loop2 μ-loop2 Inv-loop3 μ-loop3 Inv-loop μ-loop
-add-q-2 c = ?
+add-q-2 c = omega (arith, c .before .loop3-test .taken, c .before .before .before .before .loop2 .inv .end, (c .before .before .loop3 .inv .on (c .before .before .before .before .loop2 .inv)) .size)
 
--- src/lib.rt:183:9
 loop3-less : tie.Need-loop3-less Inv-loop2 μ-loop2 Inv-loop3 μ-loop3 Inv-loop μ-loop
-loop3-less c = ?
+loop3-less c = omega (arith, c .before .loop3-test .taken, c .before .before .before .before .loop2 .inv .end, (c .before .before .loop3 .inv .on (c .before .before .before .before .loop2 .inv)) .size)
 
--- src/lib.rt:183:9
 loop3-again : tie.Need-loop3-again Inv-loop2 μ-loop2 Inv-loop3 μ-loop3 Inv-loop μ-loop
-loop3-again c = ?
+loop3-again c = sending-more (c .before .before .loop3 .inv) (c .before .loop3-test .taken) (c .message-sent .ensures)
 
--- src/lib.rt:191:21
-add-w : tie.Need-add-w Inv-loop2 μ-loop2 Inv-loop3 μ-loop3 Inv-loop μ-loop
-add-w c = ?
+put-record-line-requires : tie.Need-put-record-line-requires Inv-loop2 μ-loop2 Inv-loop3 μ-loop3 Inv-loop μ-loop
+put-record-line-requires c κs =
+    let l = c .before .before .before .before .before .before .before .before .before .before .before .before .before .before .before .before .before .before .before .before .loop in omega (arith, l .inv .owed .0, l .inv .same, l .inv .room)
 
--- src/lib.rt:192:9
-put-record-line-requires :
-    tie.Need-put-record-line-requires Inv-loop2 μ-loop2 Inv-loop3 μ-loop3 Inv-loop μ-loop
-put-record-line-requires c κs = ?
-
--- src/lib.rt:194:9
 add-k : tie.Need-add-k Inv-loop2 μ-loop2 Inv-loop3 μ-loop3 Inv-loop μ-loop
-add-k c = ?
+add-k c = omega (arith, c .before .before .before .before .before .before .before .before .before .before .before .before .before .before .before .before .before .before .before .before .before .before .before .loop .inv .way .counted, c .before .before .before .before .before .before .before .before .before .before .before .before .before .before .before .before .before .before .before .before .before .before .before .loop .inv .way .placed)
 
--- src/lib.rt:109:5
 loop-less : tie.Need-loop-less Inv-loop2 μ-loop2 Inv-loop3 μ-loop3 Inv-loop μ-loop
-loop-less c = ?
+loop-less c = omega (arith, c .before .before .before .before .before .before .before .before .before .before .before .before .before .before .before .before .before .before .before .before .before .before .loop-test .taken)
 
--- src/lib.rt:109:5
 loop-again : tie.Need-loop-again Inv-loop2 μ-loop2 Inv-loop3 μ-loop3 Inv-loop μ-loop
-loop-again c = ?
+loop-again c =
+    let l = c .before .before .before .before .before .before .before .before .before .before .before .before .before .before .before .before .before .before .before .before .before .before .before .loop in
+    let it = did (c .before .before .before .before .before .before .before .before .before) in
+    let exchanged = moving-done (c .before .before .before .before .before .loop3 .inv .on (c .before .before .before .before .before .before .before .loop2 .inv)) (c .before .before .before .before .loop3-test .left) in
+    goes-round (l .inv) (l .left - 1) (omega (arith, c .before .before .before .before .before .before .before .before .before .before .before .before .before .before .before .before .before .before .before .before .before .before .loop-test .taken)) _ (c .before .before .before .before .before .before .before .before .before .before .before .before .before .before .before .before .before .before .before .before .before .record-at .ensures) (c .before .before .before .before .before .before .before .before .before .before .before .before .before .before .before .before .before .before .before .if1 .left) _ (all-put it (c .before .before .before .before .before .before .before .before .span-of .ensures) exchanged) refl (it .servers) (it .clients) (c .before .before .put-record-line .ensures)
 
--- src/lib.rt:196:5
-piece-of-requires-2 :
-    tie.Need-piece-of-requires-2 Inv-loop2 μ-loop2 Inv-loop3 μ-loop3 Inv-loop μ-loop
-piece-of-requires-2 c κs = ?
+piece-of-requires-2 : tie.Need-piece-of-requires-2 Inv-loop2 μ-loop2 Inv-loop3 μ-loop3 Inv-loop μ-loop
+piece-of-requires-2 c κs = tt
 
--- src/lib.rt:95:1
 same-length-2 : tie.Need-same-length-2 Inv-loop2 μ-loop2 Inv-loop3 μ-loop3 Inv-loop μ-loop
-same-length-2 c = ?
+same-length-2 c = omega (arith, c .before .before .loop .inv .same)
 
--- src/lib.rt:95:1
 returns-2 : tie.Need-returns-2 Inv-loop2 μ-loop2 Inv-loop3 μ-loop3 Inv-loop μ-loop
-returns-2 c = ?
+returns-2 c =
+    done _ _ (now (c .before .before .before .before .before .before .before .before .before .before .args .s)) (c .before .before .before .before .before .before .before .before .before .before .args .start) (c .before .before .before .before .before .before .before .before .before .before .args .most) (c .before .before .before .before .before .before .before .before .before .before .args .r) (c .before .before .before .before .before .before .world-of .result) (c .before .before .before .before .before .before .world-of .ensures) (c .piece-of2 .result)
+    (none-left (c .before .before .loop .inv) (omega (arith, c .before .loop-test .left)) _ (c .piece-of2 .ensures))
 
 pub put-turns-spec : {M : Type 1} → statement M
 put-turns-spec =
     tie.close
     (tie.spec
-    Inv-loop2
-    μ-loop2
-    Inv-loop3
-    μ-loop3
-    Inv-loop
-    μ-loop
+    Inv-loop2 μ-loop2 Inv-loop3 μ-loop3 Inv-loop μ-loop
     world-of-requires
     loop-holds
     record-at-requires
-    held-among-requires
     put-last-lines-requires
     piece-of-requires
     same-length
     returns
     sub-left
     place-below-requires
-    mul-m
-    array-copy-out-m
     place-below-requires-2
     mul-y
     array-copy-out-y
     lives-of-requires
+    mul-decided
+    array-copy-out-decided
     action-of-requires
     decided-requires
     nothing-requires
@@ -426,54 +318,40 @@ put-turns-spec =
     end-holds-requires
     enum-known-happens-2
     cast-place
-    mul-reading
-    element-copy-out-reading
-    reading-requires
-    mul-server-after
-    array-copy-out-server-after
-    server-after-requires
+    mul-served-in
+    array-copy-out-served-in
+    served-in-requires
     has-room-requires
     mul-ss
     array-set-from-ss
     notices-after-requires
     enum-known-happens-3
     cast-place-2
-    add-party
-    cast-party
-    mul-y-2
-    array-copy-out-y-2
-    mul-reading-2
-    element-copy-out-reading-2
-    reading-requires-2
-    client-after-requires
+    mul-asked-in
+    array-copy-out-asked-in
+    asked-in-requires
     has-room-requires-2
     mul-ys
     array-set-from-ys
     next-after-requires
     span-of-requires
     loop2-holds
-    cast-to
-    add-above
-    mul-above
-    array-copy-out-above
+    add-ms
     mul-ms
+    array-copy-out-ms
+    mul-ms-2
     array-set-from-ms
     add-q
     loop2-less
     loop2-again
     loop3-holds
-    sub-behind
-    cast-from
-    mul-one
-    element-copy-out-one
-    cast-to-2
+    sub-message-sent
     message-sent-requires
-    mul-ms-2
+    mul-ms-3
     array-set-from-ms-2
     add-q-2
     loop3-less
     loop3-again
-    add-w
     put-record-line-requires
     add-k
     loop-less
