@@ -5,7 +5,7 @@ use mathlib.Core.List.{List, [], _++_, append-nil, append-assoc}
 use Prim.Native.Nat.{ℕ, zero, suc, _+_, _-_, _≤_, _<_}
 use native.Mathlib.Numerals.{add-one}
 use native.Mathlib.Omega.{arith}
-use lib.Dec.{eqb, leb, nleb→lt}
+use lib.Dec.{leb}
 use lib.ListN.{length}
 use Rattle.types.specs.declared.Facade.{Facade}
 use Rattle.types.specs.declared.Answer.{Answer}
@@ -15,9 +15,8 @@ use Rattle.wire.specs.Numbers.{over}
 use Rattle.wire.proofs.Over.{over-length}
 use Rattle.script.specs.Reading.{recordAt}
 use Rattle.script.specs.declared.Record.{Record}
-use Rattle.report.specs.Lines.{recordLine, heldLine}
 use Rattle.turns.specs.declared.Progress.{Progress}
-use Rattle.turns.specs.Turns.{before, answerLine, linesFrom, progressFrom, UnderWay}
+use Rattle.turns.specs.Turns.{before, answerLine, endsAt, lastLines, linesFrom, progressFrom, UnderWay}
 use Rattle.replay.specs.Output.{firstLine, beginning, output, pieceTurns, mostPiece}
 use Rattle.turns.proofs.Lines.{moves-two, lines-few, moves-on}
 use Rattle.replay.proofs.Whole.{first-line-short, output-begun}
@@ -36,7 +35,7 @@ more s m r = cond (r .ended) [] (linesFrom m (r .facade) s (r .place) (r .number
 pub pieces-join : (s : List ℕ) (n m : ℕ) (f : Facade) (p k : ℕ) → linesFrom (n + m) f s p k ≡ linesFrom n f s p k ++ more s m (progressFrom n f s p k)
 unfolding linesFrom progressFrom
 pieces-join s zero m f p k = ap (λ (j : ℕ). linesFrom j f s p k) (none-more m)
-pieces-join s (suc n) m f p k = rw (one-more n m) (go (pieces-join s n m (x .facade) (r .next) (k + 1)) (leb (length s) p) (eqb (r .refusal) 3)) where
+pieces-join s (suc n) m f p k = rw (one-more n m) (go (pieces-join s n m (x .facade) (r .next) (k + 1)) (endsAt s p)) where
   r : Record
   r = recordAt s p
 
@@ -44,22 +43,17 @@ pieces-join s (suc n) m f p k = rw (one-more n m) (go (pieces-join s n m (x .fac
   x = step f (r .step)
 
   last : List ℕ
-  last = heldLine (heldClients f)
-
-  stop : List ℕ
-  stop = recordLine k 3 0 (f .time) (f .waiting) ++ last
+  last = lastLines (leb (length s) p) k (f .time) (f .waiting) (heldClients f)
 
   line : List ℕ
   line = answerLine k x
 
   go : linesFrom (n + m) (x .facade) s (r .next) (k + 1) ≡ linesFrom n (x .facade) s (r .next) (k + 1) ++ more s m (progressFrom n (x .facade) s (r .next) (k + 1))
-      → (a b : Bool)
-      → cond a last (cond b stop (line ++ linesFrom (n + m) (x .facade) s (r .next) (k + 1)))
-      ≡ cond a last (cond b stop (line ++ linesFrom n (x .facade) s (r .next) (k + 1)))
-      ++ more s m (cond a (before f p k true) (cond b (before f p k true) (progressFrom n (x .facade) s (r .next) (k + 1))))
-  go ih true b = sym (append-nil last)
-  go ih false true = sym (append-nil stop)
-  go ih false false =
+      → (b : Bool)
+      → cond b last (line ++ linesFrom (n + m) (x .facade) s (r .next) (k + 1))
+      ≡ cond b last (line ++ linesFrom n (x .facade) s (r .next) (k + 1)) ++ more s m (cond b (before f p k true) (progressFrom n (x .facade) s (r .next) (k + 1)))
+  go ih true = sym (append-nil last)
+  go ih false =
       ap (λ (v : List ℕ). line ++ v) ih
       ∙ sym (append-assoc line (linesFrom n (x .facade) s (r .next) (k + 1)) _)
 
@@ -74,13 +68,11 @@ nothing-more s n m f p k e =
 in-time : (s : List ℕ) (n : ℕ) (f : Facade) (p k : ℕ) → length s ≤ n + p → (progressFrom (suc n) f s p k) .ended ≡ true
 unfolding progressFrom
 in-time s zero f p k h =
-    cond-case (λ (x : Progress). x .ended ≡ true) (leb (length s) p) _ _ (λ _. refl) (λ u. absurd (omega (arith, nleb→lt (length s) p u)))
+    cond-case (λ (x : Progress). x .ended ≡ true) (endsAt s p) _ _ (λ _. refl) (λ t. absurd (omega (arith, moves-two s p (not-eqb _ _ t))))
 in-time s (suc n) f p k h =
     let r = recordAt s p in
-    let P : Progress → Type 0 = λ x. x .ended ≡ true in
-    cond-case P (leb (length s) p) _ _ (λ _. refl)
-    (λ u. cond-case P (eqb (r .refusal) 3) _ _ (λ _. refl)
-    (λ t. in-time s n ((step f (r .step)) .facade) (r .next) (k + 1) (omega (arith, moves-two s p (not-eqb _ _ t)))))
+    cond-case (λ (x : Progress). x .ended ≡ true) (endsAt s p) _ _ (λ _. refl)
+    (λ t. in-time s n ((step f (r .step)) .facade) (r .next) (k + 1) (omega (arith, moves-two s p (not-eqb _ _ t))))
 
 -- The pieces are the output: once n turns have ended the run, what they put behind the first line is all that the rig prints.
 pub pieces-are-output : (s : List ℕ) (n : ℕ) → (beginning s) .ended ≡ false

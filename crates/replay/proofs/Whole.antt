@@ -110,12 +110,12 @@ begun n s = linesFrom n ((beginning s) .facade) s ((beginning s) .place) ((begin
 
 -- the output, by whether the run has ended with the first line
 pub output-ended : (s : List ℕ) → (beginning s) .ended ≡ true → output s ≡ firstLine s
-unfolding output beginning
-output-ended s e = rw (not-true (eqb ((headerIn s) .refusal) 0) e) (append-nil (firstLine s))
+unfolding output
+output-ended s e = rw e (append-nil (firstLine s))
 
 pub output-begun : (s : List ℕ) → (beginning s) .ended ≡ false → output s ≡ firstLine s ++ begun (length s + 1) s
-unfolding output beginning
-output-begun s e = rw (not-false (eqb ((headerIn s) .refusal) 0) e)
+unfolding output
+output-begun s e = rw e
 
 -- all the lines of a run that has begun fit behind the first
 pub begun-fits : (s : List ℕ) → (beginning s) .ended ≡ false → (n : ℕ) → length (begun n s) ≤ 852000

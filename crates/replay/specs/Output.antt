@@ -16,13 +16,15 @@ use Rattle.report.specs.Lines.{recordLine, facadeLine}
 unfoldable pub firstLine : List ℕ → List ℕ
 firstLine s = cond (eqb ((headerIn s) .refusal) 0) (facadeLine ((headerIn s) .config)) (recordLine 0 ((headerIn s) .refusal) 0 0 0)
 
--- the run behind it
+-- the run behind it, which has ended where the header is refused
 unfoldable pub beginning : List ℕ → Progress
 beginning s = before (fresh ((headerIn s) .config)) 29 1 (not (eqb ((headerIn s) .refusal) 0))
 
 -- all that the rig prints; there are no more records than bytes, and one turn more ends the run
 unfoldable pub output : List ℕ → List ℕ
-output s = firstLine s ++ cond (eqb ((headerIn s) .refusal) 0) (linesFrom (length s + 1) (fresh ((headerIn s) .config)) s 29 1) []
+output s =
+    firstLine s
+    ++ cond ((beginning s) .ended) [] (linesFrom (length s + 1) ((beginning s) .facade) s ((beginning s) .place) ((beginning s) .number))
 
 -- room for any output: at most 32,754 lines of at most 26 bytes, and the first and the last
 abbrev pub mostOutput : ℕ
