@@ -17,7 +17,9 @@ use types::World;
 ghost use mathlib.Core.Path.{_≡_};
 ghost use Prim.Native.Nat.{_+_, _*_, _≤_, _<_};
 ghost use lib.Dec.{T};
+ghost use lib.IntN.{natAbs};
 ghost use lib.ListN.{set};
+ghost use Rattle.rules.specs.Clock.{plus};
 ghost use Rattle.rules.specs.Parts.{withLife};
 ghost use Rattle.rules.specs.Messages.{nothing as nothingSent};
 ghost use Rattle.rules.specs.Server.{answer};
@@ -25,7 +27,7 @@ ghost use Rattle.rules.specs.Steps.{serverAfter, noticesAfter, clientAfter, nex
 ghost use Rattle.rules.proofs.Kept.{Configured};
 ghost use Rattle.types.specs.declared.Deed.the-variants.{Serves, Asks};
 ghost use Rattle.world.specs.Apart.{WorldInRange};
-ghost use Rattle.deeds.specs.Deeds.{eventInRange, DeedInRange, servedIn, askedIn};
+ghost use Rattle.deeds.specs.Deeds.{eventInRange, DeedInRange, askedIn};
 
 // Server s is alive or not from true time t on; it sends nothing.
 fn with_life(s: Server, alive: bool, t: u32) -> ServerAnswer
@@ -60,14 +62,13 @@ fn server_after(c: Config, t: u32, k: u32, r: u32, s: Server, e: ServerEvent) ->
     }
 }
 
-// Server k of world w after an event, by its clock.
-pub fn served_in(w: World, k: u32, s: Server, e: ServerEvent) -> ServerAnswer
-    requires { ⌜ WorldInRange w × DeedInRange w (Serves k e) ⌝ }
-    ensures { λ x. ⌜ x ≡ servedIn w k s e ⌝ }
+// Server k after an event at true time t, its clock being ahead by o. The offset is handed in, and not the world, since that
+// would be copied.
+pub fn served_at(c: Config, t: u32, o: i32, k: u32, s: Server, e: ServerEvent) -> ServerAnswer
+    requires { ⌜ Configured c × (t ≤ 1000000000) × (natAbs o ≤ 1000) × (k < c .servers) × T (eventInRange c k e) ⌝ }
+    ensures { λ x. ⌜ x ≡ serverAfter c t k (plus t o) s e ⌝ }
 {
-    let at = k as usize;
-    let c = w.config;
-    server_after(c, w.time, k, reading(w.time, w.offsets[at]), s, e)
+    server_after(c, t, k, reading(t, o), s, e)
 }
 
 // The notice times with that of receiver k about server j set to t.

@@ -10,7 +10,7 @@ use decisions::decided;
 use deeds::asked_in;
 use deeds::next_after;
 use deeds::notices_after;
-use deeds::served_in;
+use deeds::served_at;
 use outbox::nothing;
 use ranges::config_in_range;
 use ranges::facade_in_range;
@@ -133,7 +133,7 @@ fn serve(f: Facade, p: u32, taken: bool, k: u32, e: ServerEvent) -> Answer
     let mut ss = f.servers;
     let own = ss[at];
     let mut w = world_of(f);
-    let x = served_in(w, k, own, e);
+    let x = served_at(w.config, w.time, w.offsets[at], k, own, e);
     let t = x.server;
     ss[at] = t;
     let now = notices_after(w, k, e);

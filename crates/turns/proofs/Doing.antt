@@ -6,7 +6,9 @@ use Prim.Native.Nat.{ℕ, _+_, _≤_, _<_}
 use native.Mathlib.Omega.{arith}
 use native.Mathlib.Decide.{ℕ-discrete}
 use lib.Dec.{T, leb, leb→le, nleb→lt}
-use lib.IntN.{ℤ, natAbs}
+use mir.Syntax.{w32}
+use mir.Val.{toZ, ofZ}
+use lib.IntN.{ℤ, pos, natAbs}
 use lib.ListN.{length, getD, set, length-set}
 use Rattle.types.specs.declared.Server.{Server}
 use Rattle.types.specs.declared.State.{State}
@@ -30,13 +32,13 @@ use Rattle.rules.specs.Views.{atHand}
 use Rattle.rules.specs.Steps.{action, noticesAfter, nextAfter, movedIn, ended, enacted, step}
 use Rattle.rules.proofs.Kept.{Configured}
 use Rattle.world.specs.Apart.{facadeOf, WorldInRange}
-use Rattle.world.proofs.Laws.{sizes, waiting-high, offset-high}
+use Rattle.world.proofs.Laws.{sizes, time-high, waiting-high, offset-high, offset-read}
 use Rattle.cable.specs.Exchange.{restOf, roomFor, exchanged}
 use Rattle.cable.specs.Places.{spanOf}
 use Rattle.cable.specs.declared.Span.{Span}
 use Rattle.cable.proofs.Laws.{rest-high}
 use Rattle.decisions.specs.Decided.{decided}
-use Rattle.deeds.specs.Deeds.{DeedInRange, servedIn, askedIn}
+use Rattle.deeds.specs.Deeds.{eventInRange, DeedInRange, servedIn, askedIn}
 use Rattle.facade.specs.Settled.{nextIn, noticesIn, waitingIn}
 use Rattle.facade.proofs.Laws.{Hand, decided-fits, decided-there, refused-rests, is-refused-so, out, rests-is, passes-is, serves-is, asks-is, few-served, few-asked, left-out, put-in}
 use Rattle.turns.proofs.Turns.{as-many-clients}
@@ -145,12 +147,22 @@ module _ {w : World} {ss : List Server} {ys : List Client} {ms : List Message} {
 
   -- server k
   module _ (k : ℕ) (v : ServerEvent) (i : d .happens ≡ Serves k v) where
-    pub served-fits : WorldInRange w × DeedInRange w (Serves k v)
-    served-fits = (record { servers = ss; clients = ys; messages = ms; sound = turn .hand .sound }, rw i at ready)
+    pub noticed-fits : WorldInRange w × DeedInRange w (Serves k v)
+    noticed-fits = (record { servers = ss; clients = ys; messages = ms; sound = turn .hand .sound }, rw i at ready)
+
+    pub served-offset : toZ w32 (ofZ w32 (getD (w .offsets) k (pos 0))) ≡ getD (w .offsets) k (pos 0)
+    unfolding DeedInRange
+    served-offset = offset-read (facadeOf w ss ys ms) in-range k (omega (arith, noticed-fits .1 .0))
+
+    pub served-fits : Configured (w .config) × (w .time ≤ 1000000000) × (natAbs (toZ w32 (ofZ w32 (getD (w .offsets) k (pos 0)))) ≤ 1000) × (k < w .config .servers) × T (eventInRange (w .config) k v)
+    unfolding DeedInRange
+    served-fits =
+        let r = noticed-fits .1 in
+        (c-ok, time-high (facadeOf w ss ys ms) in-range, rw served-offset (offset-high (facadeOf w ss ys ms) in-range k (omega (arith, r .0))), r .0, r .1)
 
     pub served-low : k < 4
     unfolding DeedInRange
-    served-low = omega (arith, served-fits .1 .0, c-ok)
+    served-low = omega (arith, noticed-fits .1 .0, c-ok)
 
     module _ {y : ServerAnswer} (b : y ≡ servedIn w k (getD ss k noServer) v) where
       served : d .refusal ≡ 0
@@ -158,7 +170,7 @@ module _ {w : World} {ss : List Server} {ys : List Client} {ms : List Message} {
 
       pub few-sent : y .outbox .count ≤ 4
       unfolding DeedInRange
-      few-sent = rw b (few-served _ (c-ok .servers-high) _ _ _ (served-fits .1 .0) _ v)
+      few-sent = rw b (few-served _ (c-ok .servers-high) _ _ _ (noticed-fits .1 .0) _ v)
 
       module _ {g : Bool} (e : g ≡ roomFor (w .waiting) (d .taken) (y .outbox .count)) where
         pub serves-full : g ≡ false → Did w ss ys ms s 13 false w ss ys nothing 0

@@ -8,7 +8,7 @@ use decisions::decided;
 use deeds::asked_in;
 use deeds::next_after;
 use deeds::notices_after;
-use deeds::served_in;
+use deeds::served_at;
 use facade::held_among;
 use outbox::nothing;
 use report::put_held_line;
@@ -142,7 +142,7 @@ pub fn put_turns(s: &[u8], r: Progress, out: &mut [u8], start: usize, most: u32)
             }
             Deed::Serves(j, e) => {
                 let place = j as usize;
-                let x = served_in(w, j, ss[place], e);
+                let x = served_at(w.config, w.time, w.offsets[place], j, ss[place], e);
                 let o = x.outbox;
                 if has_room(w.waiting, taken, o.count) {
                     let t = x.server;
