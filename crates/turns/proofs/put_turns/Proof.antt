@@ -17,7 +17,7 @@ use Rattle.world.proofs.Laws.{place-low, next-high, waiting-high}
 use Rattle.cable.proofs.Laws.{Moving, moving-span, moving-high, moving-up, moving-done, Sending, sending-start, sending-more}
 use Rattle.turns.specs.Turns.{linesFrom, progressFrom}
 use Rattle.turns.proofs.Turns.{as-read, whether-ended, Going, none-left, last-put, goes-round, done}
-use Rattle.turns.proofs.Doing.{Did, Turn, c-ok, did-rest, passed-fits, did-pass, served-fits, served-low, few-sent, serves-full, did-serve, asked-fits, asked-low, few-said, asks-full, did-ask, asked-of, span-fits, all-put, held-by}
+use Rattle.turns.proofs.Doing.{Did, Turn, c-ok, did-rest, passed-fits, did-pass, noticed-fits, served-offset, served-fits, served-low, few-sent, serves-full, did-serve, asked-fits, asked-low, few-said, asks-full, did-ask, asked-of, span-fits, all-put, held-by}
 use Rattle.turns.proofs.put_turns.Statement.{statement}
 use Rattle.turns.proofs.put_turns.Tie as tie
 
@@ -140,26 +140,32 @@ enum-known-happens-2 c = search needs
 cast-place : tie.Need-cast-place Inv-loop2 μ-loop2 Inv-loop3 μ-loop3 Inv-loop μ-loop
 cast-place c = omega (arith, served-low (turn (c .before .before .before .before)) _ _ (c .before .happens2 .given .1))
 
-mul-served-in : tie.Need-mul-served-in Inv-loop2 μ-loop2 Inv-loop3 μ-loop3 Inv-loop μ-loop
-mul-served-in c = omega (arith, served-low (turn (c .before .before .before .before)) _ _ (c .before .happens2 .given .1))
+mul-served-at : tie.Need-mul-served-at Inv-loop2 μ-loop2 Inv-loop3 μ-loop3 Inv-loop μ-loop
+mul-served-at c = omega (arith, served-low (turn (c .before .before .before .before .before)) _ _ (c .before .before .happens2 .given .1))
 
-array-copy-out-served-in : tie.Need-array-copy-out-served-in Inv-loop2 μ-loop2 Inv-loop3 μ-loop3 Inv-loop μ-loop
-array-copy-out-served-in c = omega (arith, served-low (turn (c .before .before .before .before)) _ _ (c .before .happens2 .given .1), c .before .before .before .before .before .before .before .before .before .before .before .before .before .before .before .before .loop .inv .way .servers)
+element-copy-out-served-at : tie.Need-element-copy-out-served-at Inv-loop2 μ-loop2 Inv-loop3 μ-loop3 Inv-loop μ-loop
+element-copy-out-served-at c = omega (arith, served-low (turn (c .before .before .before .before .before)) _ _ (c .before .before .happens2 .given .1))
 
-served-in-requires : tie.Need-served-in-requires Inv-loop2 μ-loop2 Inv-loop3 μ-loop3 Inv-loop μ-loop
-served-in-requires c κs = served-fits (turn (c .before .before .before .before .before)) _ _ (c .before .before .happens2 .given .1)
+mul-served-at-2 : tie.Need-mul-served-at-2 Inv-loop2 μ-loop2 Inv-loop3 μ-loop3 Inv-loop μ-loop
+mul-served-at-2 c = omega (arith, served-low (turn (c .before .before .before .before .before .before)) _ _ (c .before .before .before .happens2 .given .1))
+
+array-copy-out-served-at : tie.Need-array-copy-out-served-at Inv-loop2 μ-loop2 Inv-loop3 μ-loop3 Inv-loop μ-loop
+array-copy-out-served-at c = omega (arith, served-low (turn (c .before .before .before .before .before .before)) _ _ (c .before .before .before .happens2 .given .1), c .before .before .before .before .before .before .before .before .before .before .before .before .before .before .before .before .before .before .loop .inv .way .servers)
+
+served-at-requires : tie.Need-served-at-requires Inv-loop2 μ-loop2 Inv-loop3 μ-loop3 Inv-loop μ-loop
+served-at-requires c κs = served-fits (turn (c .before .before .before .before .before .before .before)) _ _ (c .before .before .before .before .happens2 .given .1)
 
 has-room-requires : tie.Need-has-room-requires Inv-loop2 μ-loop2 Inv-loop3 μ-loop3 Inv-loop μ-loop
-has-room-requires c κs = asked-of (turn (c .before .before .before .before .before .before .before)) (few-sent (turn (c .before .before .before .before .before .before .before)) _ _ (c .before .before .before .before .happens2 .given .1) (c .before .served-in .ensures))
+has-room-requires c κs = asked-of (turn (c .before .before .before .before .before .before .before .before .before)) (few-sent (turn (c .before .before .before .before .before .before .before .before .before)) _ _ (c .before .before .before .before .before .before .happens2 .given .1) (rw (served-offset (turn (c .before .before .before .before .before .before .before .before .before)) _ _ (c .before .before .before .before .before .before .happens2 .given .1)) at (c .before .served-at .ensures)))
 
 mul-ss : tie.Need-mul-ss Inv-loop2 μ-loop2 Inv-loop3 μ-loop3 Inv-loop μ-loop
-mul-ss c = omega (arith, served-low (turn (c .before .before .before .before .before .before .before .before .before .before)) _ _ (c .before .before .before .before .before .before .before .happens2 .given .1))
+mul-ss c = omega (arith, served-low (turn (c .before .before .before .before .before .before .before .before .before .before .before .before)) _ _ (c .before .before .before .before .before .before .before .before .before .happens2 .given .1))
 
 array-set-from-ss : tie.Need-array-set-from-ss Inv-loop2 μ-loop2 Inv-loop3 μ-loop3 Inv-loop μ-loop
-array-set-from-ss c = omega (arith, served-low (turn (c .before .before .before .before .before .before .before .before .before .before)) _ _ (c .before .before .before .before .before .before .before .happens2 .given .1), c .before .before .before .before .before .before .before .before .before .before .before .before .before .before .before .before .before .before .before .before .before .before .loop .inv .way .servers)
+array-set-from-ss c = omega (arith, served-low (turn (c .before .before .before .before .before .before .before .before .before .before .before .before)) _ _ (c .before .before .before .before .before .before .before .before .before .happens2 .given .1), c .before .before .before .before .before .before .before .before .before .before .before .before .before .before .before .before .before .before .before .before .before .before .before .before .loop .inv .way .servers)
 
 notices-after-requires : tie.Need-notices-after-requires Inv-loop2 μ-loop2 Inv-loop3 μ-loop3 Inv-loop μ-loop
-notices-after-requires c κs = served-fits (turn (c .before .before .before .before .before .before .before .before .before .before)) _ _ (c .before .before .before .before .before .before .before .happens2 .given .1)
+notices-after-requires c κs = noticed-fits (turn (c .before .before .before .before .before .before .before .before .before .before .before .before)) _ _ (c .before .before .before .before .before .before .before .before .before .happens2 .given .1)
 
 enum-known-happens-3 : tie.Need-enum-known-happens-3 Inv-loop2 μ-loop2 Inv-loop3 μ-loop3 Inv-loop μ-loop
 enum-known-happens-3 c = search needs
@@ -199,8 +205,8 @@ did c =
     (⊎-elim
     (λ v. let fit : SFits w32 (v .1 .given .0 .1 .1 .0) = search needs in
     held-by (did-pass it _ _ _ (v .1 .given .1) (rw (toZ-ofZ fit) at (v .3 .ensures)) (v .4 .ensures)) (v .8) (v .9) (v .5) (v .6) (v .7) (v .10 ∙ none) (v .11))
-    (⊎-elim (λ v. held-by (did-serve it _ _ (v .1 .given .1) (v .4 .ensures) (v .6 .ensures) (v .7 .taken) (v .9 .ensures)) (v .13) (v .14) (v .10) (v .11) (v .12) (v .15) (v .16))
-    (⊎-elim (λ v. held-by (serves-full it _ _ (v .1 .given .1) (v .4 .ensures) (v .6 .ensures) (v .7 .left)) (v .11) (v .12) (v .8) (v .9) (v .10) (v .13 ∙ none) (v .14))
+    (⊎-elim (λ v. let is = v .1 .given .1 in held-by (did-serve it _ _ is (rw (served-offset it _ _ is) at (v .6 .ensures)) (v .8 .ensures) (v .9 .taken) (v .11 .ensures)) (v .15) (v .16) (v .12) (v .13) (v .14) (v .17) (v .18))
+    (⊎-elim (λ v. let is = v .1 .given .1 in held-by (serves-full it _ _ is (rw (served-offset it _ _ is) at (v .6 .ensures)) (v .8 .ensures) (v .9 .left)) (v .13) (v .14) (v .10) (v .11) (v .12) (v .15 ∙ none) (v .16))
     (⊎-elim (λ v. held-by (did-ask it _ _ (v .1 .given .1) (v .4 .ensures) (v .6 .ensures) (v .7 .taken) (v .9 .ensures)) (v .13) (v .14) (v .10) (v .11) (v .12) (v .15) (v .16))
     (λ v. held-by (asks-full it _ _ (v .1 .given .1) (v .4 .ensures) (v .6 .ensures) (v .7 .left)) (v .11) (v .12) (v .8) (v .9) (v .10) (v .13 ∙ none) (v .14))))))
     (c .match .came)
@@ -318,9 +324,11 @@ put-turns-spec =
     end-holds-requires
     enum-known-happens-2
     cast-place
-    mul-served-in
-    array-copy-out-served-in
-    served-in-requires
+    mul-served-at
+    element-copy-out-served-at
+    mul-served-at-2
+    array-copy-out-served-at
+    served-at-requires
     has-room-requires
     mul-ss
     array-set-from-ss
