@@ -8,6 +8,7 @@ use clocks::does_clock_allow;
 use clocks::is_credible_notice;
 use clocks::is_in_touch;
 use types::Action;
+use types::Client;
 use types::ClientEvent;
 use types::Config;
 use types::Decision;
@@ -172,12 +173,13 @@ fn deed_of(c: Config, m: Message, x: Action) -> Deed
     }
 }
 
-// What is decided of step a, where n is the number of the rules 4 and 5 and m the message at the position that it names.
-pub fn decided(n: u32, w: World, l: Lives, x: State, m: Message, a: Action) -> Decision
+// What is decided of step a, where n is the number of the rules 4 and 5, y the client and m the message that it names.
+pub fn decided(n: u32, w: World, l: Lives, y: Client, m: Message, a: Action) -> Decision
     requires { ⌜ WorldInRange w × (n ≡ malformed a 0) ⌝ }
-    ensures { λ r. ⌜ r ≡ decidedOf (atHand w l x) m a ⌝ }
+    ensures { λ r. ⌜ r ≡ decidedOf (atHand w l (y .state)) m a ⌝ }
 {
-    let first = first_broken(n, w, l, x, a);
+    let state = y.state;
+    let first = first_broken(n, w, l, state, a);
     if first != 0 {
         return Decision {
             refusal: first,

@@ -192,9 +192,8 @@ fn step_in_range(f: Facade, s: Step) -> Answer
     let m = f.messages[from];
     let near = place_below(32, s.first);
     let y = f.clients[near];
-    let state = y.state;
     let ss = f.servers;
-    let d = decided(malformed(x), world_of(f), lives_of(ss), state, m, x);
+    let d = decided(malformed(x), world_of(f), lives_of(ss), y, m, x);
     if d.refusal != 0 {
         return refuse(f, d.refusal);
     }

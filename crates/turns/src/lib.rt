@@ -26,6 +26,7 @@ use world::lives_of;
 use world::place_below;
 use world::world_of;
 ghost use mathlib.Core.Path.{_≡_};
+ghost use mathlib.Core.Bool.{true};
 ghost use Prim.Native.Nat.{_+_, _≤_};
 ghost use lib.ListN.{length};
 ghost use Rattle.wire.specs.Numbers.{over as overAt};
@@ -96,6 +97,26 @@ fn put_last_lines(
     put_held_line(out, next, n)
 }
 
+// A run whose facade is apart ends at record k, or where the script is over: its last lines are put.
+fn end_run(
+    out: &mut [u8],
+    at: usize,
+    over: bool,
+    w: World,
+    ss: [Server; 4],
+    ys: [Client; 32],
+    ms: [Message; 128],
+    p: usize,
+    k: u32,
+) -> Piece
+    requires { ⌜ (at + 55 ≤ length (now out)) × (k ≤ 99999) × (w .waiting ≤ 128) ⌝ }
+    ensures { λ x. ⌜ x ≡ record { progress = before (facadeOf w ss ys ms) p k true; end = at + length (lastLines over k (w .time) (w .waiting) (heldAmong (w .config) ys)) } ⌝ }
+    ensures { λ _. ⌜ now (out .exit) ≡ overAt (now (out .entry)) at (lastLines over k (w .time) (w .waiting) (heldAmong (w .config) ys)) ⌝ }
+{
+    let end = put_last_lines(out, at, over, k, w, ys);
+    piece_of(w, ss, ys, ms, p, k, true, end)
+}
+
 // The lines of so many turns of the run r are put from place `start` on. The facade stays apart in locals, what happens is put in
 // there as `facade::step` does, and the messages are exchanged by the two loops of `cable::exchange`, written out here: whatever
 // is handed on is copied, once for each record. In a refused step nothing happens and no message is taken out, so that every
@@ -117,16 +138,20 @@ pub fn put_turns(s: &[u8], r: Progress, out: &mut [u8], start: usize, most: u32)
     while 0 < left {
         let d = record_at(s, p);
         if d.refusal == 3 {
-            let end = put_last_lines(out, at, s.len() <= p, k, w, ys);
-            return piece_of(w, ss, ys, ms, p, k, true, end);
+            return end_run(out, at, s.len() <= p, w, ss, ys, ms, p, k);
         }
         left -= 1;
         let step = d.step;
         let from = place_below(128, step.first);
         let near = place_below(32, step.first);
-        let y = ys[near];
-        let state = y.state;
-        let x = decided(d.refusal, w, lives_of(ss), state, ms[from], action_of(step));
+        let x = decided(
+            d.refusal,
+            w,
+            lives_of(ss),
+            ys[near],
+            ms[from],
+            action_of(step),
+        );
         let mut refusal = x.refusal;
         let mut taken = x.taken;
         let mut sent = nothing();

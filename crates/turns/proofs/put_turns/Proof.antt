@@ -51,22 +51,19 @@ loop-holds c = rw (c .before .before .before .world-of .ensures) (record { way =
 record-at-requires : tie.Need-record-at-requires Inv-loop2 μ-loop2 Inv-loop3 μ-loop3 Inv-loop μ-loop
 record-at-requires c κs = tt
 
-put-last-lines-requires : tie.Need-put-last-lines-requires Inv-loop2 μ-loop2 Inv-loop3 μ-loop3 Inv-loop μ-loop
-put-last-lines-requires c κs =
+end-run-requires : tie.Need-end-run-requires Inv-loop2 μ-loop2 Inv-loop3 μ-loop3 Inv-loop μ-loop
+end-run-requires c κs =
     let l = c .before .before .before .before .before .loop in
     (omega (arith, l .inv .owed .0, l .inv .same, l .inv .room), omega (arith, l .inv .way .counted, l .inv .way .placed), waiting-high _ (l .inv .way .sound .0))
 
-piece-of-requires : tie.Need-piece-of-requires Inv-loop2 μ-loop2 Inv-loop3 μ-loop3 Inv-loop μ-loop
-piece-of-requires c κs = tt
-
 same-length : tie.Need-same-length Inv-loop2 μ-loop2 Inv-loop3 μ-loop3 Inv-loop μ-loop
-same-length c = omega (arith, c .before .before .out .given, c .before .before .before .before .before .before .before .before .before .loop .inv .same)
+same-length c = omega (arith, c .before .out .given, c .before .before .before .before .before .before .before .before .loop .inv .same)
 
 returns : tie.Need-returns Inv-loop2 μ-loop2 Inv-loop3 μ-loop3 Inv-loop μ-loop
 returns c =
-    let l = c .before .before .before .before .before .before .before .before .before .loop in
-    done _ _ (now (c .before .before .before .before .before .before .before .before .before .before .before .before .before .before .before .before .before .args .s)) (c .before .before .before .before .before .before .before .before .before .before .before .before .before .before .before .before .before .args .start) (c .before .before .before .before .before .before .before .before .before .before .before .before .before .before .before .before .before .args .most) (c .before .before .before .before .before .before .before .before .before .before .before .before .before .before .before .before .before .args .r) (c .before .before .before .before .before .before .before .before .before .before .before .before .before .world-of .result) (c .before .before .before .before .before .before .before .before .before .before .before .before .before .world-of .ensures) (c .piece-of .result)
-    (last-put (l .inv) (l .left - 1) (omega (arith, c .before .before .before .before .before .before .before .before .loop-test .taken)) _ (c .before .before .before .before .before .before .before .record-at .ensures) (c .before .before .before .before .before .if1 .taken) _ refl (c .before .before .before .put-last-lines .ensures) _ (c .piece-of .ensures))
+    let l = c .before .before .before .before .before .before .before .before .loop in
+    done _ _ (now (c .before .before .before .before .before .before .before .before .before .before .before .before .before .before .before .before .args .s)) (c .before .before .before .before .before .before .before .before .before .before .before .before .before .before .before .before .args .start) (c .before .before .before .before .before .before .before .before .before .before .before .before .before .before .before .before .args .most) (c .before .before .before .before .before .before .before .before .before .before .before .before .before .before .before .before .args .r) (c .before .before .before .before .before .before .before .before .before .before .before .before .world-of .result) (c .before .before .before .before .before .before .before .before .before .before .before .before .world-of .ensures) (c .before .before .end-run .result)
+    (last-put (l .inv) (l .left - 1) (omega (arith, c .before .before .before .before .before .before .before .loop-test .taken)) _ (c .before .before .before .before .before .before .record-at .ensures) (c .before .before .before .before .if1 .taken) _ refl (refl, c .before .before .end-run .ensures .1) _ (c .before .before .end-run .ensures .0))
 
 sub-left : tie.Need-sub-left Inv-loop2 μ-loop2 Inv-loop3 μ-loop3 Inv-loop μ-loop
 sub-left c = c .before .before .before .loop-test .taken
@@ -77,20 +74,20 @@ place-below-requires c κs = tt
 place-below-requires-2 : tie.Need-place-below-requires-2 Inv-loop2 μ-loop2 Inv-loop3 μ-loop3 Inv-loop μ-loop
 place-below-requires-2 c κs = tt
 
-mul-y : tie.Need-mul-y Inv-loop2 μ-loop2 Inv-loop3 μ-loop3 Inv-loop μ-loop
-mul-y c = omega (arith, place-low 32 _ _ (omega arith) (c .place-below2 .ensures))
-
-array-copy-out-y : tie.Need-array-copy-out-y Inv-loop2 μ-loop2 Inv-loop3 μ-loop3 Inv-loop μ-loop
-array-copy-out-y c = omega (arith, place-low 32 _ _ (omega arith) (c .place-below2 .ensures), c .before .before .before .before .before .before .before .loop .inv .way .clients)
-
 lives-of-requires : tie.Need-lives-of-requires Inv-loop2 μ-loop2 Inv-loop3 μ-loop3 Inv-loop μ-loop
 lives-of-requires c κs = tt
 
 mul-decided : tie.Need-mul-decided Inv-loop2 μ-loop2 Inv-loop3 μ-loop3 Inv-loop μ-loop
-mul-decided c = omega (arith, place-low 128 _ _ (omega arith) (c .before .before .before .place-below .ensures))
+mul-decided c = omega (arith, place-low 32 _ _ (omega arith) (c .before .place-below2 .ensures))
 
 array-copy-out-decided : tie.Need-array-copy-out-decided Inv-loop2 μ-loop2 Inv-loop3 μ-loop3 Inv-loop μ-loop
-array-copy-out-decided c = omega (arith, place-low 128 _ _ (omega arith) (c .before .before .before .place-below .ensures), c .before .before .before .before .before .before .before .before .before .loop .inv .way .sound .1)
+array-copy-out-decided c = omega (arith, place-low 32 _ _ (omega arith) (c .before .place-below2 .ensures), c .before .before .before .before .before .before .before .before .loop .inv .way .clients)
+
+mul-decided-2 : tie.Need-mul-decided-2 Inv-loop2 μ-loop2 Inv-loop3 μ-loop3 Inv-loop μ-loop
+mul-decided-2 c = omega (arith, place-low 128 _ _ (omega arith) (c .before .before .before .place-below .ensures))
+
+array-copy-out-decided-2 : tie.Need-array-copy-out-decided-2 Inv-loop2 μ-loop2 Inv-loop3 μ-loop3 Inv-loop μ-loop
+array-copy-out-decided-2 c = omega (arith, place-low 128 _ _ (omega arith) (c .before .before .before .place-below .ensures), c .before .before .before .before .before .before .before .before .before .loop .inv .way .sound .1)
 
 action-of-requires : tie.Need-action-of-requires Inv-loop2 μ-loop2 Inv-loop3 μ-loop3 Inv-loop μ-loop
 action-of-requires c κs = tt
@@ -105,12 +102,12 @@ turn : (c : tie.After-decided Inv-loop2 μ-loop2 Inv-loop3 μ-loop3 Inv-loop μ-
 turn c =
     let l = c .before .before .before .before .before .before .before .before .before .before .before .before .loop in
     record {
-      l = c .before .before .before .lives-of .result;
+      l = c .before .before .before .before .lives-of .result;
       m = getD (l .ms) (c .before .before .before .before .before .before .place-below .result) noMessage;
       x = (getD (l .ys) (c .before .before .before .before .before .place-below2 .result) noClient) .state;
       hand = record {
         sound = l .inv .way .sound;
-        lives = c .before .before .before .lives-of .ensures;
+        lives = c .before .before .before .before .lives-of .ensures;
         message = ap (λ (j : ℕ). getD (l .ms) j noMessage) (c .before .before .before .before .before .before .place-below .ensures);
         state = ap (λ (j : ℕ). (getD (l .ys) j noClient) .state) (c .before .before .before .before .before .place-below2 .ensures);
       };
@@ -284,16 +281,16 @@ loop-again c =
     let exchanged = moving-done (c .before .before .before .before .before .loop3 .inv .on (c .before .before .before .before .before .before .before .loop2 .inv)) (c .before .before .before .before .loop3-test .left) in
     goes-round (l .inv) (l .left - 1) (omega (arith, c .before .before .before .before .before .before .before .before .before .before .before .before .before .before .before .before .before .before .before .before .before .before .loop-test .taken)) _ (c .before .before .before .before .before .before .before .before .before .before .before .before .before .before .before .before .before .before .before .before .before .record-at .ensures) (c .before .before .before .before .before .before .before .before .before .before .before .before .before .before .before .before .before .before .before .if1 .left) _ (all-put it (c .before .before .before .before .before .before .before .before .span-of .ensures) exchanged) refl (it .servers) (it .clients) (c .before .before .put-record-line .ensures)
 
-piece-of-requires-2 : tie.Need-piece-of-requires-2 Inv-loop2 μ-loop2 Inv-loop3 μ-loop3 Inv-loop μ-loop
-piece-of-requires-2 c κs = tt
+piece-of-requires : tie.Need-piece-of-requires Inv-loop2 μ-loop2 Inv-loop3 μ-loop3 Inv-loop μ-loop
+piece-of-requires c κs = tt
 
 same-length-2 : tie.Need-same-length-2 Inv-loop2 μ-loop2 Inv-loop3 μ-loop3 Inv-loop μ-loop
 same-length-2 c = omega (arith, c .before .before .loop .inv .same)
 
 returns-2 : tie.Need-returns-2 Inv-loop2 μ-loop2 Inv-loop3 μ-loop3 Inv-loop μ-loop
 returns-2 c =
-    done _ _ (now (c .before .before .before .before .before .before .before .before .before .before .args .s)) (c .before .before .before .before .before .before .before .before .before .before .args .start) (c .before .before .before .before .before .before .before .before .before .before .args .most) (c .before .before .before .before .before .before .before .before .before .before .args .r) (c .before .before .before .before .before .before .world-of .result) (c .before .before .before .before .before .before .world-of .ensures) (c .piece-of2 .result)
-    (none-left (c .before .before .loop .inv) (omega (arith, c .before .loop-test .left)) _ (c .piece-of2 .ensures))
+    done _ _ (now (c .before .before .before .before .before .before .before .before .before .before .args .s)) (c .before .before .before .before .before .before .before .before .before .before .args .start) (c .before .before .before .before .before .before .before .before .before .before .args .most) (c .before .before .before .before .before .before .before .before .before .before .args .r) (c .before .before .before .before .before .before .world-of .result) (c .before .before .before .before .before .before .world-of .ensures) (c .piece-of .result)
+    (none-left (c .before .before .loop .inv) (omega (arith, c .before .loop-test .left)) _ (c .piece-of .ensures))
 
 pub put-turns-spec : {M : Type 1} → statement M
 put-turns-spec =
@@ -303,18 +300,17 @@ put-turns-spec =
     world-of-requires
     loop-holds
     record-at-requires
-    put-last-lines-requires
-    piece-of-requires
+    end-run-requires
     same-length
     returns
     sub-left
     place-below-requires
     place-below-requires-2
-    mul-y
-    array-copy-out-y
     lives-of-requires
     mul-decided
     array-copy-out-decided
+    mul-decided-2
+    array-copy-out-decided-2
     action-of-requires
     decided-requires
     nothing-requires
@@ -364,6 +360,6 @@ put-turns-spec =
     add-k
     loop-less
     loop-again
-    piece-of-requires-2
+    piece-of-requires
     same-length-2
     returns-2)
