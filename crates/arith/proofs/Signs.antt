@@ -11,7 +11,7 @@ use lib.Signed.{ltZ, mag}
 use mir.Syntax.{w32}
 use mir.Val.{SFits, toZ, ofZ}
 use mir.Facts.{toZ-ofZ, toZ-pos}
-use Rattle.rules.specs.Clock.{plus, notNegative, signed}
+use Rattle.rules.specs.Clock.{clockReading, notNegative, asSigned}
 
 -- A number below zero.
 
@@ -56,11 +56,11 @@ module _ (z : ℤ) (f : SFits w32 z) (t : ltZ (toZ w32 (ofZ w32 z)) (pos 0) ≡ 
 
 -- Clocks.
 
-pub clock-back : (t : ℕ) (z : ℤ) → ltZ z (pos 0) ≡ true → plus t z ≡ t - natAbs z
+pub clock-back : (t : ℕ) (z : ℤ) → ltZ z (pos 0) ≡ true → clockReading t z ≡ t - natAbs z
 clock-back t (pos a) h = absurd (omega (arith, ltb-true a 0 h))
 clock-back t (negsuc m) h = refl
 
-pub clock-ahead : (t : ℕ) (z : ℤ) → ltZ z (pos 0) ≡ false → plus t z ≡ t + natAbs z
+pub clock-ahead : (t : ℕ) (z : ℤ) → ltZ z (pos 0) ≡ false → clockReading t z ≡ t + natAbs z
 clock-ahead t (pos a) h = refl
 clock-ahead t (negsuc m) h = let q : _≡_ {A = ℕ} 0 1 = ap (λ (t : Bool). cond t 0 1) h in absurd (omega arith)
 
@@ -89,8 +89,8 @@ sum-fits (negsuc a) (negsuc b) h g = record { sfits = omega arith }
 
 -- Two's complement.
 
-pub low : (x : ℕ) → x < 2147483648 → toZ w32 x ≡ signed x
-unfolding signed
+pub low : (x : ℕ) → x < 2147483648 → toZ w32 x ≡ asSigned x
+unfolding asSigned
 low x h = toZ-pos w32 h ∙ simp (lt-ltb _ _ h)
 
 module _ (x : ℕ) (h : 2147483648 ≤ x) where
@@ -103,6 +103,6 @@ module _ (x : ℕ) (h : 2147483648 ≤ x) where
   pub high-fits : SFits w32 (negsuc 0 -ℤ toZ w32 (4294967295 - x))
   high-fits = rw value (record { sfits = less })
 
-  pub high : toZ w32 (ofZ w32 (negsuc 0 -ℤ toZ w32 (4294967295 - x))) ≡ signed x
-  unfolding signed
+  pub high : toZ w32 (ofZ w32 (negsuc 0 -ℤ toZ w32 (4294967295 - x))) ≡ asSigned x
+  unfolding asSigned
   high = toZ-ofZ high-fits ∙ value ∙ simp (le-ltb _ _ h)

@@ -2,8 +2,9 @@
 ghost use mathlib.Core.Path.{_≡_};
 ghost use Prim.Native.Nat.{_≤_, _<_, max};
 ghost use lib.IntN.{natAbs, _+ℤ_};
-ghost use Rattle.rules.specs.Conditions.{_and_, _or_, within, unless as unlessOk};
-ghost use Rattle.rules.specs.Clock.{plus, notNegative, signed};
+ghost use Rattle.rules.specs.Conditions.{_and_, _or_, isWithin, unless as unless′};
+ghost use Rattle.rules.specs.Clock.{clockReading, notNegative, asSigned};
+ghost use Rattle.rules.specs.Ranges.{lastTime};
 
 // Both tests, in the order of the rules.
 pub fn both(x: bool, y: bool) -> bool
@@ -21,7 +22,7 @@ pub fn either(x: bool, y: bool) -> bool
 
 // The number of a refusal where its test fails, and else what the refusals below it give.
 pub fn unless(ok: bool, n: u32, below: u32) -> u32
-    ensures { λ r. ⌜ r ≡ unlessOk ok n below ⌝ }
+    ensures { λ r. ⌜ r ≡ unless′ ok n below ⌝ }
 {
     if ok { below } else { n }
 }
@@ -35,7 +36,7 @@ pub fn larger(x: u32, y: u32) -> u32
 
 // Whether x lies between two bounds.
 pub fn is_within(low: u32, high: u32, x: u32) -> bool
-    ensures { λ r. ⌜ r ≡ within low high x ⌝ }
+    ensures { λ r. ⌜ r ≡ isWithin low high x ⌝ }
 {
     both(low <= x, x <= high)
 }
@@ -52,7 +53,7 @@ pub fn magnitude(o: i32) -> u32
 }
 
 // Whether t with the signed amount o is not negative.
-pub fn is_not_negative(t: u32, o: i32) -> bool
+pub fn not_negative(t: u32, o: i32) -> bool
     ensures { λ r. ⌜ r ≡ notNegative t o ⌝ }
 {
     if o < 0 {
@@ -62,9 +63,9 @@ pub fn is_not_negative(t: u32, o: i32) -> bool
 }
 
 // A clock: true time t with the signed amount o by which it is ahead.
-pub fn reading(t: u32, o: i32) -> u32
-    requires { ⌜ t ≤ 1000000000 ⌝ }
-    ensures { λ r. ⌜ r ≡ plus t o ⌝ }
+pub fn clock_reading(t: u32, o: i32) -> u32
+    requires { ⌜ t ≤ lastTime ⌝ }
+    ensures { λ r. ⌜ r ≡ clockReading t o ⌝ }
 {
     let n = magnitude(o);
     if o < 0 {
@@ -83,7 +84,7 @@ pub fn shifted(o: i32, e: i32) -> i32
 
 // A number of four bytes in two's complement.
 pub fn as_signed(x: u32) -> i32
-    ensures { λ r. ⌜ r ≡ signed x ⌝ }
+    ensures { λ r. ⌜ r ≡ asSigned x ⌝ }
 {
     if x < 2147483648 {
         x as i32

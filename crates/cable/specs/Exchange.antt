@@ -2,11 +2,10 @@
 use mathlib.Core.Bool.{Bool, cond}
 use mathlib.Core.List.{List}
 use Prim.Native.Nat.{ℕ, _+_, _-_}
-use lib.Dec.{leb}
 use Rattle.types.specs.declared.Message.{Message}
 use Rattle.types.specs.declared.Outbox.{Outbox}
 use Rattle.rules.specs.Messages.{removed, sentBehind}
-use Rattle.rules.specs.Ranges.{mostWaiting}
+use Rattle.rules.specs.Steps.{hasRoom}
 
 -- how many of n waiting messages stay where one is taken out if `taken`
 abbrev pub restOf : ℕ → Bool → ℕ
@@ -14,7 +13,7 @@ restOf n taken = cond taken (n - 1) n
 
 -- so many more find room behind them
 abbrev pub roomFor : ℕ → Bool → ℕ → Bool
-roomFor n taken count = leb (restOf n taken + count) mostWaiting
+roomFor n taken count = hasRoom (restOf n taken + count)
 
 -- of n waiting messages that at p is taken out if `taken`, and what o holds waits behind the rest
 abbrev pub exchanged : List Message → ℕ → ℕ → Bool → Outbox → List Message

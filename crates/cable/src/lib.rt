@@ -1,13 +1,14 @@
 // The waiting messages, in the order sent: one is taken out, and what a step sends waits behind the rest.
-// A caller that keeps the messages in a local writes the loops of `remove` and `send` there, as handing the messages over
+// A caller that keeps the messages in a local writes the loops of `removed` and `sent_behind` there, as handing the messages over
 // copies them: of the span of an exchange a place gets the message above it up to `rest`, then up to `last` a `message_sent`.
+use types::MOST_WAITING;
 use types::Message;
 use types::Outbox;
 ghost use mathlib.Core.Path.{_≡_};
 ghost use Prim.Native.Nat.{_≤_, _<_};
 ghost use lib.Dec.{T};
-ghost use Rattle.rules.specs.Messages.{removed, sentBehind};
-ghost use Rattle.cable.specs.Exchange.{restOf, roomFor, exchanged};
+ghost use Rattle.rules.specs.Messages.{removed as removed′, sentBehind};
+ghost use Rattle.cable.specs.Exchange.{restOf, roomFor, exchanged as exchanged′};
 ghost use Rattle.cable.specs.Places.{firstOf, endOf, spanOf, messageSent};
 
 // The places that an exchange changes: from `first` on messages move up, from `rest` on what is sent is put, up to `last`.
@@ -28,11 +29,11 @@ pub fn rest_of(n: u32, taken: bool) -> u32
 }
 
 // Whether so many more find room, where one of n waiting messages is taken out first if `taken`.
-pub fn has_room(n: u32, taken: bool, count: u32) -> bool
+pub fn room_for(n: u32, taken: bool, count: u32) -> bool
     requires { ⌜ (n ≤ 128) × (count ≤ 4) × (T taken → 1 ≤ n) ⌝ }
     ensures { λ r. ⌜ r ≡ roomFor n taken count ⌝ }
 {
-    rest_of(n, taken) + count <= 128
+    rest_of(n, taken) + count <= MOST_WAITING
 }
 
 // The first place that changes: that of the message at p, if it is taken out, or that behind the n that wait.
@@ -80,13 +81,13 @@ pub fn message_sent(o: Outbox, k: usize) -> Message
     if k < o.count as usize {
         return o.messages[k];
     }
-    outbox::empty()
+    outbox::no_message()
 }
 
 // Of n waiting messages that at p is taken out: those behind it move up, and the last place is emptied.
-fn remove(ms: [Message; 128], p: u32, n: u32) -> [Message; 128]
+fn removed(ms: [Message; 128], p: u32, n: u32) -> [Message; 128]
     requires { ⌜ (p < n) × (n ≤ 128) ⌝ }
-    ensures { λ r. ⌜ r ≡ removed ms p n ⌝ }
+    ensures { λ r. ⌜ r ≡ removed′ ms p n ⌝ }
 {
     let rest = n - 1;
     let mut out = ms;
@@ -98,14 +99,14 @@ fn remove(ms: [Message; 128], p: u32, n: u32) -> [Message; 128]
         out[at] = above;
         i += 1;
     }
-    let none = outbox::empty();
+    let none = outbox::no_message();
     let gap = i as usize;
     out[gap] = none;
     out
 }
 
 // What o holds waits behind the w messages that wait.
-fn send(ms: [Message; 128], w: u32, o: Outbox) -> [Message; 128]
+fn sent_behind(ms: [Message; 128], w: u32, o: Outbox) -> [Message; 128]
     requires { ⌜ (w ≤ 128) × (o .count ≤ 4) ⌝ }
     ensures { λ r. ⌜ r ≡ sentBehind ms w o (o .count) ⌝ }
 {
@@ -122,13 +123,13 @@ fn send(ms: [Message; 128], w: u32, o: Outbox) -> [Message; 128]
 }
 
 // Of n waiting messages that at p is taken out if `taken`, and what o holds waits behind the rest.
-pub fn exchange(ms: [Message; 128], p: u32, n: u32, taken: bool, o: Outbox) -> [Message; 128]
+pub fn exchanged(ms: [Message; 128], p: u32, n: u32, taken: bool, o: Outbox) -> [Message; 128]
     requires { ⌜ (n ≤ 128) × (o .count ≤ 4) × (T taken → p < n) ⌝ }
-    ensures { λ r. ⌜ r ≡ exchanged ms p n taken o ⌝ }
+    ensures { λ r. ⌜ r ≡ exchanged′ ms p n taken o ⌝ }
 {
     if taken {
-        let left = remove(ms, p, n);
-        return send(left, n - 1, o);
+        let left = removed(ms, p, n);
+        return sent_behind(left, n - 1, o);
     }
-    send(ms, n, o)
+    sent_behind(ms, n, o)
 }

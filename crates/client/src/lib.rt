@@ -10,14 +10,20 @@ use types::Message;
 use types::Outbox;
 use types::State;
 ghost use mathlib.Core.Path.{_≡_};
-ghost use Prim.Native.Nat.{_<_};
-ghost use Rattle.rules.specs.Messages.{nothing as nothingSent};
-ghost use Rattle.rules.specs.Client.{isOffered, isHolding, reply as replied, broadcast as broadcasted, lapsed, discovers, requests, renews, asksWith, onOffer, expects, onAck, clientHandles, clientReceives};
+ghost use Prim.Native.Nat.{_<_, _+_};
+ghost use Rattle.rules.specs.Messages.{nothing as nothing′};
+ghost use Rattle.rules.specs.Client.{isOffered, isHolding, reply as reply′, broadcast as broadcast′, lapsed as lapsed′, discovers as discovers′, requests as requests′, renews as renews′, asksWith, onOffer, expects as expects′, onAck, clientHandles, clientReceives};
 ghost use Rattle.rules.proofs.Kept.{Configured};
+ghost use mathlib.Core.Bool.{cond};
+ghost use lib.Dec.{ltb};
+ghost use lib.ListN.{getD};
+ghost use Rattle.rules.specs.Conditions.{_and_};
+ghost use Rattle.rules.specs.Parts.{noClient};
+ghost use Rattle.rules.specs.Steps.{heldAmong};
 
 // A client in state x with outcome n, and what it sends.
 fn reply(x: State, n: u32, o: Outbox) -> ClientAnswer
-    ensures { λ r. ⌜ r ≡ replied x n o ⌝ }
+    ensures { λ r. ⌜ r ≡ reply′ x n o ⌝ }
 {
     let y = Client { state: x };
     ClientAnswer {
@@ -29,7 +35,7 @@ fn reply(x: State, n: u32, o: Outbox) -> ClientAnswer
 
 // A client that stays in state x and sends nothing.
 fn unmoved(x: State) -> ClientAnswer
-    ensures { λ r. ⌜ r ≡ replied x 1 nothingSent ⌝ }
+    ensures { λ r. ⌜ r ≡ reply′ x 1 nothing′ ⌝ }
 {
     let none = nothing();
     reply(x, 1, none)
@@ -38,7 +44,7 @@ fn unmoved(x: State) -> ClientAnswer
 // The same message to each server.
 fn broadcast(c: Config, i: u32, q: u32, body: Body) -> Outbox
     requires { ⌜ Configured c × (i < c .clients) ⌝ }
-    ensures { λ o. ⌜ o ≡ broadcasted c i q body ⌝ }
+    ensures { λ o. ⌜ o ≡ broadcast′ c i q body ⌝ }
 {
     let m = Message {
         sender: c.servers + i,
@@ -74,8 +80,8 @@ pub fn is_holding(x: State) -> bool
 }
 
 // A hold whose end is not above the clock is over.
-pub fn lapse(r: u32, x: State) -> State
-    ensures { λ y. ⌜ y ≡ lapsed r x ⌝ }
+pub fn lapsed(r: u32, x: State) -> State
+    ensures { λ y. ⌜ y ≡ lapsed′ r x ⌝ }
 {
     match x {
         State::Idle => State::Idle,
@@ -93,9 +99,9 @@ pub fn lapse(r: u32, x: State) -> State
 }
 
 // A discover with the new interaction q.
-pub fn discover(c: Config, i: u32, x: State, q: u32) -> ClientAnswer
+pub fn discovers(c: Config, i: u32, x: State, q: u32) -> ClientAnswer
     requires { ⌜ Configured c × (i < c .clients) ⌝ }
-    ensures { λ r. ⌜ r ≡ discovers c i x q ⌝ }
+    ensures { λ r. ⌜ r ≡ discovers′ c i x q ⌝ }
 {
     if is_holding(x) {
         return unmoved(x);
@@ -105,9 +111,9 @@ pub fn discover(c: Config, i: u32, x: State, q: u32) -> ClientAnswer
 }
 
 // A request with the wanted end t.
-pub fn request(c: Config, i: u32, x: State, t: u32) -> ClientAnswer
+pub fn requests(c: Config, i: u32, x: State, t: u32) -> ClientAnswer
     requires { ⌜ Configured c × (i < c .clients) ⌝ }
-    ensures { λ r. ⌜ r ≡ requests c i x t ⌝ }
+    ensures { λ r. ⌜ r ≡ requests′ c i x t ⌝ }
 {
     match x {
         State::Idle => unmoved(State::Idle),
@@ -122,9 +128,9 @@ pub fn request(c: Config, i: u32, x: State, t: u32) -> ClientAnswer
 }
 
 // A renewal with the wanted end t and the new interaction n.
-pub fn renew(c: Config, i: u32, x: State, t: u32, n: u32) -> ClientAnswer
+pub fn renews(c: Config, i: u32, x: State, t: u32, n: u32) -> ClientAnswer
     requires { ⌜ Configured c × (i < c .clients) ⌝ }
-    ensures { λ r. ⌜ r ≡ renews c i x t n ⌝ }
+    ensures { λ r. ⌜ r ≡ renews′ c i x t n ⌝ }
 {
     match x {
         State::Idle => unmoved(State::Idle),
@@ -144,7 +150,7 @@ fn asks_with(x: State, q: u32) -> bool
 {
     match x {
         State::Idle => false,
-        State::Asking(own) => own == q,
+        State::Asking(stored) => stored == q,
         State::Offered(_, _) => false,
         State::Waiting(_, _) => false,
         State::Holding(_, _, _) => false,
@@ -162,15 +168,15 @@ fn on_offer(x: State, q: u32, a: u32) -> ClientAnswer
 }
 
 // Whether the client waits for, or holds, address a with q.
-fn does_expect(x: State, q: u32, a: u32) -> bool
-    ensures { λ r. ⌜ r ≡ expects x q a ⌝ }
+fn expects(x: State, q: u32, a: u32) -> bool
+    ensures { λ r. ⌜ r ≡ expects′ x q a ⌝ }
 {
     match x {
         State::Idle => false,
         State::Asking(_) => false,
         State::Offered(_, _) => false,
-        State::Waiting(own, address) => both(own == q, address == a),
-        State::Holding(address, _, own) => both(own == q, address == a),
+        State::Waiting(stored, address) => both(stored == q, address == a),
+        State::Holding(address, _, stored) => both(stored == q, address == a),
     }
 }
 
@@ -178,7 +184,7 @@ fn does_expect(x: State, q: u32, a: u32) -> bool
 fn on_ack(r: u32, x: State, q: u32, a: u32, e: u32) -> ClientAnswer
     ensures { λ y. ⌜ y ≡ onAck r x q a e ⌝ }
 {
-    if both(does_expect(x, q, a), r < e) {
+    if both(expects(x, q, a), r < e) {
         let none = nothing();
         return reply(State::Holding(a, e, q), 0, none);
     }
@@ -186,7 +192,7 @@ fn on_ack(r: u32, x: State, q: u32, a: u32, e: u32) -> ClientAnswer
 }
 
 // A message with this body in interaction q.
-fn handle(r: u32, x: State, q: u32, body: Body) -> ClientAnswer
+fn client_handles(r: u32, x: State, q: u32, body: Body) -> ClientAnswer
     ensures { λ y. ⌜ y ≡ clientHandles r x q body ⌝ }
 {
     match body {
@@ -202,9 +208,41 @@ fn handle(r: u32, x: State, q: u32, body: Body) -> ClientAnswer
 }
 
 // A message that comes to the client.
-pub fn receive(r: u32, x: State, m: Message) -> ClientAnswer
+pub fn client_receives(r: u32, x: State, m: Message) -> ClientAnswer
     ensures { λ y. ⌜ y ≡ clientReceives r x m ⌝ }
 {
     let body = m.body;
-    handle(r, x, m.interaction, body)
+    client_handles(r, x, m.interaction, body)
+}
+
+// Whether i is one of the clients and holds.
+fn does_hold(c: Config, ys: [Client; 32], i: u32) -> bool
+    requires { ⌜ i < 32 ⌝ }
+    ensures { λ r. ⌜ r ≡ (ltb i (c .clients) and isHolding ((getD ys i noClient) .state)) ⌝ }
+{
+    let at = i as usize;
+    let y = ys[at];
+    let state = y.state;
+    both(i < c.clients, is_holding(state))
+}
+
+// One more if b is true.
+fn one_more_if(b: bool, n: u32) -> u32
+    requires { ⌜ n < 32 ⌝ }
+    ensures { λ r. ⌜ r ≡ cond b (n + 1) n ⌝ }
+{
+    if b { n + 1 } else { n }
+}
+
+// How many of these clients hold, of which the configuration says how many there are.
+pub fn held_among(c: Config, ys: [Client; 32]) -> u32
+    ensures { λ r. ⌜ r ≡ heldAmong c ys ⌝ }
+{
+    let mut n = 0;
+    let mut i = 0;
+    while i < 32 {
+        n = one_more_if(does_hold(c, ys, i), n);
+        i += 1;
+    }
+    n
 }

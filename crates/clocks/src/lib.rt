@@ -1,9 +1,9 @@
 // True time, clocks and notice times: what a pass does, and the refusals that look at time.
 use arith::both;
+use arith::clock_reading;
 use arith::either;
-use arith::is_not_negative;
 use arith::magnitude;
-use arith::reading;
+use arith::not_negative;
 use arith::shifted;
 use types::Client;
 use types::Config;
@@ -15,16 +15,17 @@ ghost use lib.IntN.{natAbs};
 ghost use lib.ListN.{getD};
 ghost use Rattle.rules.specs.Conditions.{all};
 ghost use Rattle.rules.specs.Parts.{offsetOf};
-ghost use Rattle.rules.specs.Steps.{offsetAllows, hasHeard, areInTouch, isSo, movedIn, ended, rowNow};
+ghost use Rattle.rules.specs.Steps.{offsetAllows, hasHeard, areInTouch, isCredibleNotice, movedIn, holdsEnded, rowNow};
 ghost use Rattle.rules.proofs.Kept.{Configured};
+ghost use Rattle.rules.specs.Ranges.{lastTime};
 
 // Refusal 9: no clock, ahead by o, goes back or is off by more than Δ.
-pub fn does_clock_allow(c: Config, o: i32, d: u32, e: i32) -> bool
+pub fn offset_allows(c: Config, o: i32, d: u32, e: i32) -> bool
     requires { ⌜ (natAbs o ≤ 1000) × (natAbs e ≤ 2000) ⌝ }
     ensures { λ r. ⌜ r ≡ offsetAllows c o d e ⌝ }
 {
     let after = shifted(o, e);
-    both(is_not_negative(d, e), magnitude(after) <= c.skew)
+    both(not_negative(d, e), magnitude(after) <= c.skew)
 }
 
 // Server k had a notice about server j at most ν before `now`, or is that server, by the notice times.
@@ -33,7 +34,7 @@ fn has_heard(c: Config, ts: [u32; 16], now: u32, k: u32, j: u32) -> bool
     ensures { λ r. ⌜ r ≡ hasHeard c ts now k j ⌝ }
 {
     let at = (k * 4 + j) as usize;
-    let last = (ts[at] as u64) + (c.silence as u64);
+    let last = (ts[at] as u64) + (c.detection as u64);
     either(j == k, (now as u64) <= last)
 }
 
@@ -53,7 +54,7 @@ fn is_heard_by(c: Config, ts: [u32; 16], now: u32, k: u32) -> bool
 }
 
 // Refusal 10: no live server is more than ν without a notice about another, by the notice times.
-pub fn is_in_touch(c: Config, ts: [u32; 16], alive: [bool; 4], now: u32) -> bool
+pub fn are_in_touch(c: Config, ts: [u32; 16], alive: [bool; 4], now: u32) -> bool
     requires { ⌜ c .servers ≤ 4 ⌝ }
     ensures { λ r. ⌜ r ≡ areInTouch c ts now (λ k. getD alive k false) ⌝ }
 {
@@ -69,8 +70,8 @@ pub fn is_in_touch(c: Config, ts: [u32; 16], alive: [bool; 4], now: u32) -> bool
 }
 
 // True time and all clocks go on by d, and that of party p by e more.
-pub fn move_on(w: World, d: u32, p: u32, e: i32) -> World
-    requires { ⌜ (w .time + d ≤ 1000000000) × (p < 36) × (natAbs (offsetOf (w .offsets) p) ≤ 1000) × (natAbs e ≤ 2000) ⌝ }
+pub fn moved_in(w: World, d: u32, p: u32, e: i32) -> World
+    requires { ⌜ (w .time + d ≤ lastTime) × (p < 36) × (natAbs (offsetOf (w .offsets) p) ≤ 1000) × (natAbs e ≤ 2000) ⌝ }
     ensures { λ r. ⌜ r ≡ movedIn w d p e ⌝ }
 {
     let at = p as usize;
@@ -81,9 +82,9 @@ pub fn move_on(w: World, d: u32, p: u32, e: i32) -> World
 }
 
 // Holds whose end is not above their client's clock are over.
-pub fn end_holds(w: World, ys: [Client; 32]) -> [Client; 32]
-    requires { ⌜ Configured (w .config) × (w .time ≤ 1000000000) ⌝ }
-    ensures { λ r. ⌜ r ≡ ended (w .config) (w .time) (w .offsets) ys ⌝ }
+pub fn holds_ended(w: World, ys: [Client; 32]) -> [Client; 32]
+    requires { ⌜ Configured (w .config) × (w .time ≤ lastTime) ⌝ }
+    ensures { λ r. ⌜ r ≡ holdsEnded (w .config) (w .time) (w .offsets) ys ⌝ }
 {
     let c = w.config;
     let count = c.clients;
@@ -94,7 +95,7 @@ pub fn end_holds(w: World, ys: [Client; 32]) -> [Client; 32]
         let p = (c.servers + i) as usize;
         let y = ys[at];
         let state = y.state;
-        let left = client::lapse(reading(w.time, w.offsets[p]), state);
+        let left = client::lapsed(clock_reading(w.time, w.offsets[p]), state);
         out[at] = Client { state: left };
         i += 1;
     }
@@ -103,9 +104,9 @@ pub fn end_holds(w: World, ys: [Client; 32]) -> [Client; 32]
 
 // Refusal 11: what a notice says of a server, alive or not since `changed`, is so at true time t, or was until less than ν ago.
 pub fn is_credible_notice(c: Config, t: u32, alive: bool, changed: u32, says: u32) -> bool
-    ensures { λ r. ⌜ r ≡ isSo c t alive changed says ⌝ }
+    ensures { λ r. ⌜ r ≡ isCredibleNotice c t alive changed says ⌝ }
 {
-    let until = (changed as u64) + (c.silence as u64);
+    let until = (changed as u64) + (c.detection as u64);
     let recent = (t as u64) < until;
     if says == 1 {
         return either(alive, recent);

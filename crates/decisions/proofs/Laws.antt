@@ -13,11 +13,11 @@ use Rattle.types.specs.declared.Deed.{Deed}
 use Rattle.types.specs.declared.Deed.the-variants.{Rests}
 use Rattle.types.specs.declared.World.{World}
 use Rattle.types.specs.declared.Lives.{Lives}
-use Rattle.rules.specs.Conditions.{_and_, within, unless, all}
+use Rattle.rules.specs.Conditions.{_and_, isWithin, unless, all}
 use Rattle.rules.specs.Parts.{parties}
 use Rattle.rules.specs.Parts.{offsetOf}
 use Rattle.rules.specs.Views.{View, atHand}
-use Rattle.rules.specs.Steps.{Action, pass, notice, isKnown, fieldsInRange, exists, stateAllows, ofPass, timeLeft, offsetAllows, clockAllows, isInTouch, inTouch, isSo, ofNotice, isCredible, interactionLeft, malformed, barred, broken, deed, takes}
+use Rattle.rules.specs.Steps.{Action, pass, notice, isKnown, fieldsInRange, exists, stateAllows, ofPass, timeLeft, offsetAllows, clockAllows, isInTouch, inTouch, isCredibleNotice, ofNotice, isCredible, interactionLeft, malformed, barred, broken, deedOf, takesOut}
 use Rattle.rules.proofs.Laws.{and-l, and-r, within-high, unless-ok}
 use Rattle.decisions.specs.Decided.{decided}
 
@@ -26,12 +26,12 @@ pub pass-fields : (d p : ℕ) (e : ℤ) → malformed (pass d p e) 0 ≡ 0 → (
 unfolding malformed isKnown fieldsInRange
 pass-fields d p e h =
     let t = (unless-ok (fieldsInRange (pass d p e)) 5 0 (omega arith) ((unless-ok true 4 _ (omega arith) h) .1)) .0 in
-    (within-high 1 100000 d (and-l _ _ t), leb→le (natAbs e) 2000 (and-r (within 1 100000 d) _ t))
+    (within-high 1 100000 d (and-l _ _ t), leb→le (natAbs e) 2000 (and-r (isWithin 1 100000 d) _ t))
 
 -- the rules that a notice can break, by the tests that the code makes
 pub notice-barred : (w : World) (l : Lives) (x : State) (k j says : ℕ) {other named heard so : Bool} {r₁₁ r₇ r : ℕ}
     → other ≡ (ltb j (w .config .servers) and not (eqb j k)) → named ≡ (ltb k (w .config .servers) and other)
-    → heard ≡ getD (l .alive) k false → so ≡ isSo (w .config) (w .time) (getD (l .alive) j false) (getD (l .changed) j 0) says
+    → heard ≡ getD (l .alive) k false → so ≡ isCredibleNotice (w .config) (w .time) (getD (l .alive) j false) (getD (l .changed) j 0) says
     → r₁₁ ≡ unless so 11 0 → r₇ ≡ unless heard 7 r₁₁ → r ≡ unless named 6 r₇ → r ≡ barred (atHand w l x) (notice k j says) 0
 unfolding barred exists stateAllows ofPass ofNotice isCredible interactionLeft unless
 notice-barred w l x k j says o n h s e₁₁ e₇ e = rw (← s, ← h, ← o, ← n, ← e₁₁, ← e₇) e
@@ -75,7 +75,7 @@ module _ (v : View) (m : Message) (x : Action) {n : ℕ} (e : n ≡ broken v x 0
   unfolding decided
   decided-refused h = rw (← e, ne-eqb n 0 h)
 
-  pub decided-kept : n ≡ 0 → {taken : Bool} {d : Deed} → taken ≡ takes x → d ≡ deed (v .world .config) m x
+  pub decided-kept : n ≡ 0 → {taken : Bool} {d : Deed} → taken ≡ takesOut x → d ≡ deedOf (v .world .config) m x
       → record { refusal = 0; taken = taken; happens = d } ≡ decided v m x
   unfolding decided
   decided-kept h t q = rw (← e, eq-eqb n 0 h, t, q)

@@ -4,15 +4,17 @@ use arith::both;
 use arith::unless;
 use client::is_holding;
 use client::is_offered;
-use clocks::does_clock_allow;
+use clocks::are_in_touch;
 use clocks::is_credible_notice;
-use clocks::is_in_touch;
+use clocks::offset_allows;
 use types::Action;
 use types::Client;
 use types::ClientEvent;
 use types::Config;
 use types::Decision;
 use types::Deed;
+use types::LAST_INTERACTION;
+use types::LAST_TIME;
 use types::Lives;
 use types::Message;
 use types::ServerEvent;
@@ -23,12 +25,12 @@ ghost use mathlib.Core.Bool.{false};
 ghost use lib.Dec.{ltb};
 ghost use lib.ListN.{getD};
 ghost use Rattle.types.specs.declared.State.the-variants.{Idle};
-ghost use Rattle.rules.specs.Conditions.{unless as unlessOk};
+ghost use Rattle.rules.specs.Conditions.{unless as unless′};
 ghost use Rattle.rules.specs.Ranges.{isServer};
 ghost use Rattle.rules.specs.Views.{atHand};
-ghost use Rattle.rules.specs.Steps.{pass, notice, malformed, barred, broken, takes, delivered, deed};
+ghost use Rattle.rules.specs.Steps.{pass, notice, malformed, barred, broken as broken′, takesOut, delivered as delivered′, deedOf};
 ghost use Rattle.world.specs.Apart.{WorldInRange};
-ghost use Rattle.decisions.specs.Decided.{decided as decidedOf};
+ghost use Rattle.decisions.specs.Decided.{decided as decided′};
 
 // Whether server k is alive; one that does not exist is not.
 fn is_alive(l: Lives, k: u32) -> bool
@@ -54,14 +56,14 @@ fn last_change(l: Lives, k: u32) -> u32
 
 // Refusals 6 and 7 of fail, return and cleanup of server k, which is in a state that allows it or not.
 fn server_barred(c: Config, k: u32, allowed: bool) -> u32
-    ensures { λ r. ⌜ r ≡ unlessOk (isServer c k) 6 (unlessOk allowed 7 0) ⌝ }
+    ensures { λ r. ⌜ r ≡ unless′ (isServer c k) 6 (unless′ allowed 7 0) ⌝ }
 {
     unless(k < c.servers, 6, unless(allowed, 7, 0))
 }
 
 // Refusals 6, 7 and 12 of discover, request and renew of client i; `left` says whether a new κ, if it takes one, is left.
 pub fn client_barred(c: Config, i: u32, allowed: bool, left: bool) -> u32
-    ensures { λ r. ⌜ r ≡ unlessOk (ltb i (c .clients)) 6 (unlessOk allowed 7 (unlessOk left 12 0)) ⌝ }
+    ensures { λ r. ⌜ r ≡ unless′ (ltb i (c .clients)) 6 (unless′ allowed 7 (unless′ left 12 0)) ⌝ }
 {
     unless(i < c.clients, 6, unless(allowed, 7, unless(left, 12, 0)))
 }
@@ -85,25 +87,25 @@ fn pass_barred(w: World, l: Lives, d: u32, p: u32, e: i32) -> u32
     if c.servers + c.clients <= p {
         return 6;
     }
-    if 1000000000 < w.time + d {
+    if LAST_TIME < w.time + d {
         return 8;
     }
     let at = p as usize;
-    if !does_clock_allow(c, w.offsets[at], d, e) {
+    if !offset_allows(c, w.offsets[at], d, e) {
         return 9;
     }
     let ts = w.notices;
     let alive = l.alive;
-    if !is_in_touch(c, ts, alive, w.time + d) {
+    if !are_in_touch(c, ts, alive, w.time + d) {
         return 10;
     }
     0
 }
 
 // The number of the first rule that is broken, or 0; n is that of the rules 4 and 5, which the step alone can break.
-fn first_broken(n: u32, w: World, l: Lives, x: State, a: Action) -> u32
+fn broken(n: u32, w: World, l: Lives, x: State, a: Action) -> u32
     requires { ⌜ WorldInRange w × (n ≡ malformed a 0) ⌝ }
-    ensures { λ r. ⌜ r ≡ broken (atHand w l x) a 0 ⌝ }
+    ensures { λ r. ⌜ r ≡ broken′ (atHand w l x) a 0 ⌝ }
 {
     if n != 0 {
         return n;
@@ -114,9 +116,9 @@ fn first_broken(n: u32, w: World, l: Lives, x: State, a: Action) -> u32
         Action::Fail(k) => server_barred(c, k, is_alive(l, k)),
         Action::Return(k) => server_barred(c, k, !is_alive(l, k)),
         Action::Notice(k, j, says) => notice_barred(w, l, k, j, says),
-        Action::Discover(i) => client_barred(c, i, !is_holding(x), w.next <= 1000000),
+        Action::Discover(i) => client_barred(c, i, !is_holding(x), w.next <= LAST_INTERACTION),
         Action::Request(i, _) => client_barred(c, i, is_offered(x), true),
-        Action::Renew(i, _) => client_barred(c, i, is_holding(x), w.next <= 1000000),
+        Action::Renew(i, _) => client_barred(c, i, is_holding(x), w.next <= LAST_INTERACTION),
         Action::Deliver(p, _) => unless(p < w.waiting, 6, 0),
         Action::Lose(p) => unless(p < w.waiting, 6, 0),
         Action::Cleanup(k) => server_barred(c, k, is_alive(l, k)),
@@ -126,7 +128,7 @@ fn first_broken(n: u32, w: World, l: Lives, x: State, a: Action) -> u32
 
 // Whether the message that the step names is taken out.
 fn takes_out(x: Action) -> bool
-    ensures { λ r. ⌜ r ≡ takes x ⌝ }
+    ensures { λ r. ⌜ r ≡ takesOut x ⌝ }
 {
     match x {
         Action::Pass(_, _, _) => false,
@@ -144,8 +146,8 @@ fn takes_out(x: Action) -> bool
 }
 
 // A message is handled by the party that it is for.
-fn delivery(c: Config, m: Message) -> Deed
-    ensures { λ d. ⌜ d ≡ delivered c m ⌝ }
+fn delivered(c: Config, m: Message) -> Deed
+    ensures { λ d. ⌜ d ≡ delivered′ c m ⌝ }
 {
     let to = m.receiver;
     if to < c.servers {
@@ -156,7 +158,7 @@ fn delivery(c: Config, m: Message) -> Deed
 
 // What happens in a step, where m is the message at the position that it names.
 fn deed_of(c: Config, m: Message, x: Action) -> Deed
-    ensures { λ d. ⌜ d ≡ deed c m x ⌝ }
+    ensures { λ d. ⌜ d ≡ deedOf c m x ⌝ }
 {
     match x {
         Action::Pass(d, p, e) => Deed::Passes(d, p, e),
@@ -166,7 +168,7 @@ fn deed_of(c: Config, m: Message, x: Action) -> Deed
         Action::Discover(i) => Deed::Asks(i, ClientEvent::Discovers),
         Action::Request(i, t) => Deed::Asks(i, ClientEvent::Requests(t)),
         Action::Renew(i, t) => Deed::Asks(i, ClientEvent::Renews(t)),
-        Action::Deliver(_, _) => delivery(c, m),
+        Action::Deliver(_, _) => delivered(c, m),
         Action::Lose(_) => Deed::Rests,
         Action::Cleanup(k) => Deed::Serves(k, ServerEvent::CleansUp),
         Action::Unknown => Deed::Rests,
@@ -176,10 +178,10 @@ fn deed_of(c: Config, m: Message, x: Action) -> Deed
 // What is decided of step a, where n is the number of the rules 4 and 5, y the client and m the message that it names.
 pub fn decided(n: u32, w: World, l: Lives, y: Client, m: Message, a: Action) -> Decision
     requires { ⌜ WorldInRange w × (n ≡ malformed a 0) ⌝ }
-    ensures { λ r. ⌜ r ≡ decidedOf (atHand w l (y .state)) m a ⌝ }
+    ensures { λ r. ⌜ r ≡ decided′ (atHand w l (y .state)) m a ⌝ }
 {
     let state = y.state;
-    let first = first_broken(n, w, l, state, a);
+    let first = broken(n, w, l, state, a);
     if first != 0 {
         return Decision {
             refusal: first,

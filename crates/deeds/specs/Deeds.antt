@@ -2,7 +2,7 @@
 use mathlib.Core.Bool.{Bool, true}
 use Prim.Native.Nat.{ℕ, _+_, _≤_, _<_}
 use lib.Dec.{T}
-use lib.IntN.{natAbs}
+use lib.IntN.{ℤ, natAbs}
 use Rattle.types.specs.declared.Config.{Config}
 use Rattle.types.specs.declared.Server.{Server}
 use Rattle.types.specs.declared.ServerAnswer.{ServerAnswer}
@@ -14,7 +14,8 @@ use Rattle.types.specs.declared.ServerEvent.{ServerEvent}
 use Rattle.types.specs.declared.ServerEvent.the-variants.{Fails, Returns, Notices, Receives, CleansUp}
 use Rattle.types.specs.declared.Deed.{Deed}
 use Rattle.types.specs.declared.Deed.the-variants.{Rests, Passes, Serves, Asks}
-use Rattle.rules.specs.Parts.{parties, clockOf, clientParty}
+use Rattle.rules.specs.Clock.{clockReading}
+use Rattle.rules.specs.Parts.{offsetOf, parties, clockOf, clientParty}
 use Rattle.rules.specs.Ranges.{isServer, bodyInRange, lastTime}
 use Rattle.rules.specs.Steps.{serverAfter, clientAfter}
 
@@ -33,9 +34,13 @@ DeedInRange w (Passes d p e) = (w .time + d ≤ lastTime) × (p < parties (w .co
 DeedInRange w (Serves k e) = (k < w .config .servers) × T (eventInRange (w .config) k e)
 DeedInRange w (Asks i e) = i < w .config .clients
 
--- server k of world w after an event: s is the server
+-- server k, whose clock is ahead by o, after an event at true time t: s is the server
+abbrev pub servedAt : Config → ℕ → ℤ → ℕ → Server → ServerEvent → ServerAnswer
+servedAt c t o k s e = serverAfter c t k (clockReading t o) s e
+
+-- the same of a server of world w
 abbrev pub servedIn : World → ℕ → Server → ServerEvent → ServerAnswer
-servedIn w k s e = serverAfter (w .config) (w .time) k (clockOf (w .time) (w .offsets) k) s e
+servedIn w k s e = servedAt (w .config) (w .time) (offsetOf (w .offsets) k) k s e
 
 -- client i of world w after an event: y is the client
 abbrev pub askedIn : World → ℕ → Client → ClientEvent → ClientAnswer

@@ -16,7 +16,7 @@ use Rattle.types.specs.declared.ServerAnswer.{ServerAnswer}
 use Rattle.types.specs.declared.ClientAnswer.{ClientAnswer}
 use Rattle.rules.specs.Conditions.{_and_, unless}
 use Rattle.rules.specs.Views.{View}
-use Rattle.rules.specs.Ranges.{configInRange, lastTime, readingInRange, serverInRange, stateInRange, isServer, bodyInRange, messageInRange}
+use Rattle.rules.specs.Ranges.{configInRange, lastTime, readingInRange, serverInRange, stateInRange, isServer, bodyInRange, messageInRange, afterLast}
 use Rattle.rules.specs.Messages.{nothing}
 use Rattle.rules.specs.Client.{reply, lapsed}
 use Rattle.rules.specs.Steps.{Action, notice, isKnown, fieldsInRange, malformed, exists, stateAllows, interactionLeft}
@@ -24,7 +24,7 @@ use Rattle.rules.proofs.Laws.{and-l, and-r, unless-ok}
 use Rattle.rules.proofs.Kept.{Configured, configured}
 use Rattle.device.specs.declared.ServerReply.{ServerReply}
 use Rattle.device.specs.declared.ClientReply.{ClientReply}
-use Rattle.device.specs.Device.{afterLast, seen, deviceRefusal, ownRefusal, messageFits, serverFits, serverTook, serverRefused, serverGuarded, clientFits, clientTook, clientRefused, clientGuarded}
+use Rattle.device.specs.Device.{seen, deviceRefusal, ownRefusal, messageFits, serverFits, serverTook, serverRefused, serverGuarded, clientFits, clientTook, clientRefused, clientGuarded}
 
 -- The refusals.
 

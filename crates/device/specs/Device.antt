@@ -16,7 +16,7 @@ use Rattle.types.specs.declared.ClientAnswer.{ClientAnswer}
 use Rattle.rules.specs.Conditions.{_and_, unless}
 use Rattle.rules.specs.Parts.{clientParty}
 use Rattle.rules.specs.Views.{View}
-use Rattle.rules.specs.Ranges.{configInRange, lastTime, lastInteraction, readingInRange, serverInRange, stateInRange, isServer, messageInRange}
+use Rattle.rules.specs.Ranges.{configInRange, lastTime, afterLast, readingInRange, serverInRange, stateInRange, isServer, messageInRange}
 use Rattle.rules.specs.Messages.{nothing}
 use Rattle.rules.specs.Server.{answer, noticed, afterReturn, cleaned, serverReceives}
 use Rattle.rules.specs.Client.{reply, lapsed, discovers, requests, renews, clientReceives}
@@ -25,10 +25,6 @@ use Rattle.device.specs.declared.ServerReply.{ServerReply}
 use Rattle.device.specs.declared.ClientReply.{ClientReply}
 
 -- The refusals: those of the paper that a device can tell by what it is handed.
-
--- the number after the last interaction
-abbrev pub afterLast : ℕ
-afterLast = lastInteraction + 1
 
 -- What the rules see from a device: its configuration, the interaction q that it is handed, and a client's state x. Whether a server is alive is the
 -- facade's to say, so every server counts as alive. Nothing else is looked at.

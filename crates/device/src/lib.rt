@@ -11,18 +11,21 @@ use ranges::message_in_range;
 use ranges::server_in_range;
 use ranges::state_in_range;
 use steps::malformed;
+use types::AFTER_LAST;
 use types::Action;
 use types::Client;
 use types::ClientAnswer;
 use types::Config;
+use types::LAST_READING;
+use types::LAST_TIME;
 use types::Message;
 use types::Server;
 use types::ServerAnswer;
 use types::State;
 ghost use mathlib.Core.Path.{_≡_};
 ghost use mathlib.Core.Bool.{true};
-ghost use Rattle.rules.specs.Conditions.{_and_, unless as unlessOk};
-ghost use Rattle.rules.specs.Steps.{malformed as malformedOr};
+ghost use Rattle.rules.specs.Conditions.{_and_, unless as unless′};
+ghost use Rattle.rules.specs.Steps.{malformed as malformed′};
 ghost use Rattle.rules.proofs.Kept.{Configured};
 ghost use Rattle.device.specs.Device.{ownRefusal, messageFits, serverFits, serverTook, serverRefused, deviceReceives, deviceNoticed, deviceReturned, deviceCleaned, clientFits, clientTook, clientRefused, deviceHears, deviceDiscovers, deviceRequests, deviceRenews, deviceLapses};
 
@@ -40,7 +43,7 @@ pub struct ClientReply {
 
 // Refusal 2 where something does not fit, 5 of what the step says, and else what the rules below give.
 fn first_refusal(fits: bool, a: Action, below: u32) -> u32
-    ensures { λ n. ⌜ n ≡ unlessOk fits 2 (malformedOr a below) ⌝ }
+    ensures { λ n. ⌜ n ≡ unless′ fits 2 (malformed′ a below) ⌝ }
 {
     let n = malformed(a);
     unless(fits, 2, unless(n == 0, n, below))
@@ -59,7 +62,7 @@ fn message_fits(fits: bool, c: Config, p: u64, m: Message) -> bool
     ensures { λ x. ⌜ x ≡ (fits and messageFits c p m) ⌝ }
 {
     if fits {
-        return both((m.receiver as u64) == p, message_in_range(c, 1000001, m));
+        return both((m.receiver as u64) == p, message_in_range(c, AFTER_LAST, m));
     }
     false
 }
@@ -69,7 +72,10 @@ fn server_fits(c: Config, r: u32, s: Server) -> bool
     ensures { λ x. ⌜ x ≡ serverFits c r s ⌝ }
 {
     if config_in_range(c) {
-        return both(r <= 1000001000, server_in_range(c, 1000000000, 1000001, s));
+        return both(
+            r <= LAST_READING,
+            server_in_range(c, LAST_TIME, AFTER_LAST, s),
+        );
     }
     false
 }
@@ -101,7 +107,7 @@ fn server_refused(s: Server, n: u32) -> ServerReply
 }
 
 // A message comes to the server.
-pub fn receive_message(c: Config, k: u32, r: u32, s: Server, m: Message) -> ServerReply
+pub fn device_receives(c: Config, k: u32, r: u32, s: Server, m: Message) -> ServerReply
     ensures { λ x. ⌜ x ≡ deviceReceives c k r s m ⌝ }
 {
     let fits = message_fits(server_fits(c, r, s), c, k as u64, m);
@@ -109,11 +115,11 @@ pub fn receive_message(c: Config, k: u32, r: u32, s: Server, m: Message) -> Serv
     if n != 0 {
         return server_refused(s, n);
     }
-    server_took(server::receive(c, k, r, s, m))
+    server_took(server::server_receives(c, k, r, s, m))
 }
 
 // A notice: server `about` is dead (0) or alive (1).
-pub fn take_notice(c: Config, k: u32, r: u32, s: Server, about: u32, says: u32) -> ServerReply
+pub fn device_noticed(c: Config, k: u32, r: u32, s: Server, about: u32, says: u32) -> ServerReply
     ensures { λ x. ⌜ x ≡ deviceNoticed c k r s about says ⌝ }
 {
     let named = both(k < c.servers, both(about < c.servers, !(about == k)));
@@ -122,37 +128,37 @@ pub fn take_notice(c: Config, k: u32, r: u32, s: Server, about: u32, says: u32) 
     if n != 0 {
         return server_refused(s, n);
     }
-    server_took(server::notice(c, k, r, s, about, says))
+    server_took(server::noticed(c, k, r, s, about, says))
 }
 
 // The server comes back after a failure. Whether it is alive is not its own to say: `alive` stays as given.
-pub fn come_back(c: Config, k: u32, r: u32, s: Server) -> ServerReply
+pub fn device_returned(c: Config, k: u32, r: u32, s: Server) -> ServerReply
     ensures { λ x. ⌜ x ≡ deviceReturned c k r s ⌝ }
 {
     let n = own_refusal(server_fits(c, r, s), k < c.servers);
     if n != 0 {
         return server_refused(s, n);
     }
-    server_took(server::come_back(r, s))
+    server_took(server::after_return(r, s))
 }
 
 // Old reservations are dropped.
-pub fn clean_up(c: Config, k: u32, r: u32, s: Server) -> ServerReply
+pub fn device_cleaned(c: Config, k: u32, r: u32, s: Server) -> ServerReply
     ensures { λ x. ⌜ x ≡ deviceCleaned c k r s ⌝ }
 {
     let n = own_refusal(server_fits(c, r, s), k < c.servers);
     if n != 0 {
         return server_refused(s, n);
     }
-    server_took(server::clean_up(c, r, s))
+    server_took(server::cleaned(c, r, s))
 }
 
 // Whether the numbers of a client are in range.
 fn client_fits(c: Config, r: u32, x: State) -> bool
     ensures { λ y. ⌜ y ≡ clientFits c r x ⌝ }
 {
-    let own = both(r <= 1000001000, state_in_range(c, 1000001, x));
-    both(config_in_range(c), own)
+    let fits = both(r <= LAST_READING, state_in_range(c, AFTER_LAST, x));
+    both(config_in_range(c), fits)
 }
 
 // What the client answered, not refused.
@@ -182,7 +188,7 @@ fn client_refused(y: Client, n: u32) -> ClientReply
 }
 
 // A message comes to the client.
-pub fn receive_reply(c: Config, i: u32, r: u32, y: Client, m: Message) -> ClientReply
+pub fn device_hears(c: Config, i: u32, r: u32, y: Client, m: Message) -> ClientReply
     ensures { λ z. ⌜ z ≡ deviceHears c i r y m ⌝ }
 {
     let x = y.state;
@@ -192,11 +198,11 @@ pub fn receive_reply(c: Config, i: u32, r: u32, y: Client, m: Message) -> Client
     if n != 0 {
         return client_refused(y, n);
     }
-    client_took(client::receive(r, x, m))
+    client_took(client::client_receives(r, x, m))
 }
 
 // A discover with the new interaction q.
-pub fn discover(c: Config, i: u32, r: u32, y: Client, q: u32) -> ClientReply
+pub fn device_discovers(c: Config, i: u32, r: u32, y: Client, q: u32) -> ClientReply
     ensures { λ z. ⌜ z ≡ deviceDiscovers c i r y q ⌝ }
 {
     let x = y.state;
@@ -207,11 +213,11 @@ pub fn discover(c: Config, i: u32, r: u32, y: Client, q: u32) -> ClientReply
     if n != 0 {
         return client_refused(y, n);
     }
-    client_took(client::discover(c, i, x, q))
+    client_took(client::discovers(c, i, x, q))
 }
 
 // A request with the wanted end t.
-pub fn request(c: Config, i: u32, r: u32, y: Client, t: u32) -> ClientReply
+pub fn device_requests(c: Config, i: u32, r: u32, y: Client, t: u32) -> ClientReply
     ensures { λ z. ⌜ z ≡ deviceRequests c i r y t ⌝ }
 {
     let x = y.state;
@@ -220,11 +226,11 @@ pub fn request(c: Config, i: u32, r: u32, y: Client, t: u32) -> ClientReply
     if n != 0 {
         return client_refused(y, n);
     }
-    client_took(client::request(c, i, x, t))
+    client_took(client::requests(c, i, x, t))
 }
 
 // A renewal with the wanted end t and the new interaction q.
-pub fn renew(c: Config, i: u32, r: u32, y: Client, t: u32, q: u32) -> ClientReply
+pub fn device_renews(c: Config, i: u32, r: u32, y: Client, t: u32, q: u32) -> ClientReply
     ensures { λ z. ⌜ z ≡ deviceRenews c i r y t q ⌝ }
 {
     let x = y.state;
@@ -235,11 +241,11 @@ pub fn renew(c: Config, i: u32, r: u32, y: Client, t: u32, q: u32) -> ClientRepl
     if n != 0 {
         return client_refused(y, n);
     }
-    client_took(client::renew(c, i, x, t, q))
+    client_took(client::renews(c, i, x, t, q))
 }
 
 // Time passes: a hold whose end is not above the clock is over.
-pub fn pass_time(c: Config, i: u32, r: u32, y: Client) -> ClientReply
+pub fn device_lapses(c: Config, i: u32, r: u32, y: Client) -> ClientReply
     ensures { λ z. ⌜ z ≡ deviceLapses c i r y ⌝ }
 {
     let x = y.state;
@@ -249,7 +255,7 @@ pub fn pass_time(c: Config, i: u32, r: u32, y: Client) -> ClientReply
     }
     let none = nothing();
     let after = Client {
-        state: client::lapse(r, x),
+        state: client::lapsed(r, x),
     };
     let done = ClientAnswer {
         client: after,

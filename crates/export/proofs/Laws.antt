@@ -12,27 +12,27 @@ use Rattle.types.specs.declared.Answer.{Answer}
 use Rattle.rules.specs.Conditions.{_and_}
 use Rattle.rules.specs.Steps.{start, step}
 use Rattle.wire.specs.Numbers.{over}
-use Rattle.flat.specs.Flat.{configIn, facadeNumbers, facadeIn, isFacade}
+use Rattle.flat.specs.Flat.{configIn, facadeNumbers, facadeIn, codesFacade}
 use Rattle.flat.specs.Shape.{FacadeShaped}
 use Rattle.flat.proofs.Blocks.{coded-length}
 use Rattle.flat.proofs.Back.{facade-width, facade-coded}
 use Rattle.flatten.proofs.Laws.{over-whole}
 use Rattle.script.specs.declared.Written.{Written}
-use Rattle.script.specs.Writing.{stepsIn, written, buffer}
-use Rattle.export.specs.Export.{freshRefusal, freshNumbers, handedRefusal, handedNumbers, handedOutcome, writtenRefusal, writtenScript, writtenLength}
+use Rattle.script.specs.Writing.{stepsIn, written, scriptInto}
+use Rattle.export.specs.Export.{freshRefusal, freshNumbers, steppedRefusal, steppedNumbers, steppedOutcome, writtenRefusal, writtenScript, writtenLength}
 
 -- a facade put into the list that held the last one
 whole-put : (f : Facade) (l : List ℕ) {m : List ℕ} → length l ≡ 2778 → FacadeShaped f → m ≡ over l 0 (facadeNumbers f) → m ≡ facadeNumbers f
 whole-put f l n h p = p ∙ over-whole l (facadeNumbers f) (facade-width f h ∙ sym n)
 
 -- a list that codes a facade has its length
-pub its-length : (l : List ℕ) → isFacade l ≡ true → length l ≡ 2778
+pub its-length : (l : List ℕ) → codesFacade l ≡ true → length l ≡ 2778
 its-length = coded-length facadeNumbers facadeIn 2778
 
 -- A fresh facade.
 module _ (c l : List ℕ) where
   abbrev Started : ℕ → List ℕ → Type 0
-  Started n m = (n ≡ freshRefusal c (length l)) × ((m ≡ freshNumbers c l) × (n ≡ 0 → isFacade m ≡ true))
+  Started n m = (n ≡ freshRefusal c (length l)) × ((m ≡ freshNumbers c l) × (n ≡ 0 → codesFacade m ≡ true))
 
   -- a refusal leaves the list
   fresh-left : {n : ℕ} → n ≡ freshRefusal c (length l) → (n ≡ 0 → ⊥) → Started n l
@@ -67,19 +67,19 @@ module _ (c l : List ℕ) where
 module _ (l : List ℕ) (s : Step) where
   abbrev Answered : ℕ → List ℕ → ℕ → Type 0
   Answered n m p =
-      (n ≡ handedRefusal l s) × ((m ≡ handedNumbers l s) × ((p ≡ handedOutcome l s) × (n ≡ 0 → isFacade m ≡ true)))
+      (n ≡ steppedRefusal l s) × ((m ≡ steppedNumbers l s) × ((p ≡ steppedOutcome l s) × (n ≡ 0 → codesFacade m ≡ true)))
 
-  step-left : {n : ℕ} → n ≡ handedRefusal l s → (n ≡ 0 → ⊥) → Answered n l 0
-  unfolding handedNumbers handedOutcome
+  step-left : {n : ℕ} → n ≡ steppedRefusal l s → (n ≡ 0 → ⊥) → Answered n l 0
+  unfolding steppedNumbers steppedOutcome
   step-left {n} e z = (e, (rw (← e, ne-eqb n 0 z), (rw (← e, ne-eqb n 0 z), λ k. absurd (z k))))
 
-  pub codes-nothing : isFacade l ≡ false → Answered 2 l 0
-  unfolding handedRefusal
+  pub codes-nothing : codesFacade l ≡ false → Answered 2 l 0
+  unfolding steppedRefusal
   codes-nothing h = step-left (rw h) (λ z. omega arith)
 
-  module _ (h : isFacade l ≡ true) {x : Answer} (e : x ≡ step (facadeIn l) s) where
-    steps : x .refusal ≡ handedRefusal l s
-    unfolding handedRefusal
+  module _ (h : codesFacade l ≡ true) {x : Answer} (e : x ≡ step (facadeIn l) s) where
+    steps : x .refusal ≡ steppedRefusal l s
+    unfolding steppedRefusal
     steps = rw (h, e)
 
     pub step-refused : (x .refusal ≡ 0 → ⊥) → Answered (x .refusal) l 0
@@ -87,7 +87,7 @@ module _ (l : List ℕ) (s : Step) where
 
     pub step-put : {m : List ℕ} → x .refusal ≡ 0 → FacadeShaped (x .facade) → m ≡ over l 0 (facadeNumbers (x .facade))
         → Answered 0 m (x .outcome)
-    unfolding handedNumbers handedOutcome
+    unfolding steppedNumbers steppedOutcome
     step-put z f p =
         let whole = whole-put (x .facade) l (its-length l h) f p in
         (sym z ∙ steps, (rw (← steps, z, ← e) whole, (rw (← steps, z, ← e), λ _. rw whole (facade-coded (x .facade) f))))
@@ -107,7 +107,7 @@ module _ (c l out : List ℕ) where
     no-steps-written k = rw (eq-eqb (length c) 7 h, ne-eqb (length l % 4) 0 k) (refl, (refl, refl))
 
     module _ (k : length l % 4 ≡ 0) {w : Written} (e : w ≡ written (configIn c 0) (stepsIn l) (length out))
-        {m : List ℕ} (p : m ≡ buffer (configIn c 0) (stepsIn l) out) where
+        {m : List ℕ} (p : m ≡ scriptInto (configIn c 0) (stepsIn l) out) where
       pub write-refused : (w .refusal ≡ 0 → ⊥) → Wrote (w .refusal) m 0
       unfolding writtenRefusal writtenScript writtenLength _and_
       write-refused z = rw (eq-eqb (length c) 7 h, eq-eqb (length l % 4) 0 k, ← e, ne-eqb (w .refusal) 0 z) (refl, (p, refl))

@@ -10,12 +10,12 @@ use Rattle.types.specs.declared.Step.{Step}
 use Rattle.types.specs.declared.Answer.{Answer}
 use Rattle.rules.specs.Conditions.{_and_}
 use Rattle.rules.specs.Steps.{start, step}
-use Rattle.flat.specs.Flat.{configIn, facadeNumbers, facadeIn, isFacade}
-use Rattle.script.specs.Writing.{stepsIn, written, buffer}
+use Rattle.flat.specs.Flat.{configIn, facadeNumbers, facadeIn, codesFacade}
+use Rattle.script.specs.Writing.{stepsIn, written, scriptInto}
 
 -- the flat form of the facade that an answer gives, in the place of l, which a refusal n leaves
-abbrev pub given : ℕ → Answer → List ℕ → List ℕ
-given n x l = cond (eqb n 0) (facadeNumbers (x .facade)) l
+abbrev pub facadeLeft : ℕ → Answer → List ℕ → List ℕ
+facadeLeft n x l = cond (eqb n 0) (facadeNumbers (x .facade)) l
 
 -- A fresh facade, of the configuration in c, into a list with room for n numbers.
 
@@ -23,19 +23,19 @@ unfoldable pub freshRefusal : List ℕ → ℕ → ℕ
 freshRefusal c n = cond (eqb (length c) 7 and eqb n 2778) ((start (configIn c 0)) .refusal) 2
 
 unfoldable pub freshNumbers : List ℕ → List ℕ → List ℕ
-freshNumbers c l = given (freshRefusal c (length l)) (start (configIn c 0)) l
+freshNumbers c l = facadeLeft (freshRefusal c (length l)) (start (configIn c 0)) l
 
 -- A step of the facade in l.
 
-unfoldable pub handedRefusal : List ℕ → Step → ℕ
-handedRefusal l s = cond (isFacade l) ((step (facadeIn l) s) .refusal) 2
+unfoldable pub steppedRefusal : List ℕ → Step → ℕ
+steppedRefusal l s = cond (codesFacade l) ((step (facadeIn l) s) .refusal) 2
 
-unfoldable pub handedNumbers : List ℕ → Step → List ℕ
-handedNumbers l s = given (handedRefusal l s) (step (facadeIn l) s) l
+unfoldable pub steppedNumbers : List ℕ → Step → List ℕ
+steppedNumbers l s = facadeLeft (steppedRefusal l s) (step (facadeIn l) s) l
 
 -- "outcome (0 if refused)"
-unfoldable pub handedOutcome : List ℕ → Step → ℕ
-handedOutcome l s = cond (eqb (handedRefusal l s) 0) ((step (facadeIn l) s) .outcome) 0
+unfoldable pub steppedOutcome : List ℕ → Step → ℕ
+steppedOutcome l s = cond (eqb (steppedRefusal l s) 0) ((step (facadeIn l) s) .outcome) 0
 
 -- A script, of the configuration in c and the steps in l, four numbers each.
 
@@ -46,7 +46,7 @@ unfoldable pub writtenRefusal : List ℕ → List ℕ → ℕ → ℕ
 writtenRefusal c l room = cond (areSteps c l) ((written (configIn c 0) (stepsIn l) room) .refusal) 2
 
 unfoldable pub writtenScript : List ℕ → List ℕ → List ℕ → List ℕ
-writtenScript c l out = cond (areSteps c l) (buffer (configIn c 0) (stepsIn l) out) out
+writtenScript c l out = cond (areSteps c l) (scriptInto (configIn c 0) (stepsIn l) out) out
 
 -- the length, 0 where the script is refused
 unfoldable pub writtenLength : List ℕ → List ℕ → ℕ → ℕ

@@ -1,27 +1,27 @@
 // What programs in other languages call: the project's functions on numbers and slices. Nothing is trusted: a list of the wrong
 // length, and one with a number that codes nothing, is refused with 2. A refusal leaves every list as it was, and gives outcome and
 // length 0. A facade that was put codes one again, so the next step can be taken of it.
-use facade::fresh;
+use facade::start;
 use facade::step;
 use flat::config_in;
 use flat::facade_in;
-use flatten::is_facade;
+use flatten::codes_facade;
 use flatten::put_facade;
 use types::Step;
 ghost use mathlib.Core.Path.{_≡_};
 ghost use mathlib.Core.Bool.{true};
 ghost use lib.ListN.{length};
-ghost use Rattle.flat.specs.Flat.{isFacade};
-ghost use Rattle.script.specs.Reading.{verdict as verdictOf};
-ghost use Rattle.replay.specs.Output.{outputLength, buffer};
-ghost use Rattle.export.specs.Export.{freshRefusal, freshNumbers, handedRefusal, handedNumbers, handedOutcome, writtenRefusal, writtenScript, writtenLength};
+ghost use Rattle.flat.specs.Flat.{codesFacade};
+ghost use Rattle.script.specs.Reading.{verdict as verdict′};
+ghost use Rattle.replay.specs.Output.{outputLength, outputInto};
+ghost use Rattle.export.specs.Export.{freshRefusal, freshNumbers, steppedRefusal, steppedNumbers, steppedOutcome, writtenRefusal, writtenScript, writtenLength};
 
 // The fresh facade of a configuration.
 #[no_mangle]
 pub extern "C" fn hoyllaqe_fresh(config: &[u32], facade: &mut [u32]) -> u32
     ensures { λ r. ⌜ r ≡ freshRefusal (now (config .entry)) (length (now (facade .entry))) ⌝ }
     ensures { λ _. ⌜ now (facade .exit) ≡ freshNumbers (now (config .entry)) (now (facade .entry)) ⌝ }
-    ensures { λ r. ⌜ (r ≡ 0 → isFacade (now (facade .exit)) ≡ true) ⌝ }
+    ensures { λ r. ⌜ (r ≡ 0 → codesFacade (now (facade .exit)) ≡ true) ⌝ }
 {
     if config.len() != 7 {
         return 2;
@@ -29,7 +29,7 @@ pub extern "C" fn hoyllaqe_fresh(config: &[u32], facade: &mut [u32]) -> u32
     if facade.len() != 2778 {
         return 2;
     }
-    let x = fresh(config_in(config, 0));
+    let x = start(config_in(config, 0));
     if x.refusal != 0 {
         return x.refusal;
     }
@@ -48,13 +48,13 @@ pub extern "C" fn hoyllaqe_step(
     third: u32,
     outcome: &mut u32,
 ) -> u32
-    ensures { λ r. ⌜ r ≡ handedRefusal (now (facade .entry)) (record { kind = kind; first = first; second = second; third = third }) ⌝ }
-    ensures { λ _. ⌜ now (facade .exit) ≡ handedNumbers (now (facade .entry)) (record { kind = kind; first = first; second = second; third = third }) ⌝ }
-    ensures { λ _. ⌜ now (outcome .exit) ≡ handedOutcome (now (facade .entry)) (record { kind = kind; first = first; second = second; third = third }) ⌝ }
-    ensures { λ r. ⌜ (r ≡ 0 → isFacade (now (facade .exit)) ≡ true) ⌝ }
+    ensures { λ r. ⌜ r ≡ steppedRefusal (now (facade .entry)) (record { kind = kind; first = first; second = second; third = third }) ⌝ }
+    ensures { λ _. ⌜ now (facade .exit) ≡ steppedNumbers (now (facade .entry)) (record { kind = kind; first = first; second = second; third = third }) ⌝ }
+    ensures { λ _. ⌜ now (outcome .exit) ≡ steppedOutcome (now (facade .entry)) (record { kind = kind; first = first; second = second; third = third }) ⌝ }
+    ensures { λ r. ⌜ (r ≡ 0 → codesFacade (now (facade .exit)) ≡ true) ⌝ }
 {
     *outcome = 0;
-    if !is_facade(facade) {
+    if !codes_facade(facade) {
         return 2;
     }
     let s = Step {
@@ -76,7 +76,7 @@ pub extern "C" fn hoyllaqe_step(
 // The first of refusals 1 to 5 that reading the script through meets.
 #[no_mangle]
 pub extern "C" fn hoyllaqe_verdict(script: &[u8]) -> u32
-    ensures { λ r. ⌜ r ≡ verdictOf (now (script .entry)) ⌝ }
+    ensures { λ r. ⌜ r ≡ verdict′ (now (script .entry)) ⌝ }
 {
     script::verdict(script)
 }
@@ -112,7 +112,7 @@ pub extern "C" fn hoyllaqe_write(
 #[no_mangle]
 pub extern "C" fn hoyllaqe_run(script: &[u8], output: &mut [u8]) -> usize
     ensures { λ r. ⌜ r ≡ outputLength (now (script .entry)) (length (now (output .entry))) ⌝ }
-    ensures { λ _. ⌜ now (output .exit) ≡ buffer (now (script .entry)) (now (output .entry)) ⌝ }
+    ensures { λ _. ⌜ now (output .exit) ≡ outputInto (now (script .entry)) (now (output .entry)) ⌝ }
 {
-    replay::run(script, output)
+    replay::put_output(script, output)
 }

@@ -28,15 +28,15 @@ use Rattle.types.specs.declared.Config.{Config}
 use Rattle.types.specs.declared.Outbox.{Outbox}
 use Rattle.types.specs.declared.World.{World}
 use Rattle.types.specs.declared.Lives.{Lives}
-use Rattle.rules.specs.Conditions.{_and_, within, unless, all}
-use Rattle.rules.specs.Clock.{signed}
+use Rattle.rules.specs.Conditions.{_and_, isWithin, unless, all}
+use Rattle.rules.specs.Clock.{asSigned}
 use Rattle.rules.specs.Parts.{noServer, noClient, noMessage, messageAt}
 use Rattle.rules.specs.Messages.{nothing, sentBehind, withoutIf}
 use Rattle.rules.specs.Ranges.{inRange, isServer, messageInRange, Sound}
 use Rattle.rules.specs.Server.{noticed, cleaned}
 use Rattle.rules.specs.Client.{isHolding, isOffered}
 use Rattle.rules.specs.Views.{View, whole, atHand}
-use Rattle.rules.specs.Steps.{Action, pass, fail, return, notice, discover, request, renew, deliver, lose, cleanup, unknown, action, fieldsInRange, exists, stateAllows, ofPass, timeLeft, clockAllows, inTouch, ofNotice, isCredible, interactionLeft, malformed, barred, broken, accepted, refused, delivered, deed, position, takes, takenOut, serverAfter, noticesAfter, clientAfter, nextAfter, movedIn, ended, lapse, unlessRefused, enacted, effect, step}
+use Rattle.rules.specs.Steps.{Action, pass, fail, return, notice, discover, request, renew, deliver, lose, cleanup, unknown, actionOf, fieldsInRange, exists, stateAllows, ofPass, timeLeft, clockAllows, inTouch, ofNotice, isCredible, interactionLeft, malformed, barred, broken, accepted, refused, delivered, deedOf, position, takesOut, takenOut, serverAfter, noticesAfter, clientAfter, nextAfter, movedIn, holdsEnded, lapse, unlessRefused, enacted, effect, step}
 use Rattle.rules.proofs.Laws.{and-l, and-r, cond-case, unless-ok, not-eqb}
 use Rattle.rules.proofs.Kept.{ranged}
 use Rattle.rules.proofs.Refusals.{refused-first, unless-full}
@@ -51,7 +51,7 @@ use Rattle.facade.specs.Settled.{nextIn, noticesIn, waitingIn, settled, 
 
 -- The kinds of step.
 kinds : (s : Step) (P : Action → Type 0)
-    → P (pass (s .first) (s .second) (signed (s .third)))
+    → P (pass (s .first) (s .second) (asSigned (s .third)))
     → P (fail (s .first))
     → P (return (s .first))
     → P (notice (s .first) (s .second) (s .third))
@@ -61,8 +61,8 @@ kinds : (s : Step) (P : Action → Type 0)
     → P (deliver (s .first) (s .second))
     → P (lose (s .first))
     → P (cleanup (s .first))
-    → P unknown → P (action s)
-unfolding action
+    → P unknown → P (actionOf s)
+unfolding actionOf
 kinds s P p₁ p₂ p₃ p₄ p₅ p₆ p₇ p₈ p₉ p₁₀ p₁₁ =
     cond-case P (eqb (s .kind) 1) _ _ (λ _. p₁)
     (λ _. cond-case P (eqb (s .kind) 2) _ _ (λ _. p₂)
@@ -151,11 +151,11 @@ module _ {w : World} {ss : List Server} {ys : List Client} {ms : List Message} {
       same (ltb k (w .config .servers) and ltb j (w .config .servers) and not (eqb j k)) 6
       (λ z. let z′ = and-l _ _ (and-r (ltb k (w .config .servers)) _ z) in rw (alive-is k (and-l _ _ z), alive-is j z′, changed-is j z′))
 
-  same-barred : barred (whole (facadeOf w ss ys ms)) (action s) 0 ≡ barred (atHand w l x) (action s) 0
+  same-barred : barred (whole (facadeOf w ss ys ms)) (actionOf s) 0 ≡ barred (atHand w l x) (actionOf s) 0
   unfolding barred exists stateAllows ofPass timeLeft clockAllows ofNotice interactionLeft unless
   same-barred =
       kinds s (λ a. barred (whole (facadeOf w ss ys ms)) a 0 ≡ barred (atHand w l x) a 0)
-      (rw (touch-is (s .first) (s .second) (signed (s .third))))
+      (rw (touch-is (s .first) (s .second) (asSigned (s .third))))
       (same-server (s .first) (λ b. unless b 7 0))
       (same-server (s .first) (λ b. unless (not b) 7 0))
       (same-notice (s .first) (s .second) (s .third))
@@ -167,44 +167,44 @@ module _ {w : World} {ss : List Server} {ys : List Client} {ms : List Message} {
       (same-server (s .first) (λ b. unless b 7 0))
       refl
 
-  same-broken : broken (whole (facadeOf w ss ys ms)) (action s) 0 ≡ broken (atHand w l x) (action s) 0
+  same-broken : broken (whole (facadeOf w ss ys ms)) (actionOf s) 0 ≡ broken (atHand w l x) (actionOf s) 0
   unfolding broken
-  same-broken = ap (malformed (action s)) same-barred
+  same-broken = ap (malformed (actionOf s)) same-barred
 
   -- The number of the first rule that is broken: n, of the rules 4 to 12.
-  module _ (n : ℕ) (e : n ≡ broken (atHand w l x) (action s) 0) where
+  module _ (n : ℕ) (e : n ≡ broken (atHand w l x) (actionOf s) 0) where
     is-refused : (n ≡ 0 → ⊥) → refused (facadeOf w ss ys ms) n ≡ step (facadeOf w ss ys ms) s
     unfolding step
-    is-refused = refused-first (facadeOf w ss ys ms) (action s) t n (e ∙ sym same-broken)
+    is-refused = refused-first (facadeOf w ss ys ms) (actionOf s) t n (e ∙ sym same-broken)
 
     -- no rule is broken but perhaps the last
     module _ (z : n ≡ 0) where
-      none : broken (atHand w l x) (action s) 0 ≡ 0
+      none : broken (atHand w l x) (actionOf s) 0 ≡ 0
       none = sym e ∙ z
 
       -- the message at hand is the one that a delivery names
       named-message : T (ltb (s .first) (w .waiting)) → messageAt (facadeOf w ss ys ms) (s .first) ≡ m
       named-message q = rw (h .message, place-named 128 (s .first) (omega (arith, ltb→lt (s .first) (w .waiting) q, waiting-high (facadeOf w ss ys ms) t)))
 
-      same-deed : deed (w .config) (messageAt (facadeOf w ss ys ms) (position (action s))) (action s) ≡ deed (w .config) m (action s)
-      unfolding deed position exists
+      same-deed : deedOf (w .config) (messageAt (facadeOf w ss ys ms) (position (actionOf s))) (actionOf s) ≡ deedOf (w .config) m (actionOf s)
+      unfolding deedOf position exists
       same-deed =
-          kinds s (λ a. broken (atHand w l x) a 0 ≡ 0 → deed (w .config) (messageAt (facadeOf w ss ys ms) (position a)) a ≡ deed (w .config) m a)
+          kinds s (λ a. broken (atHand w l x) a 0 ≡ 0 → deedOf (w .config) (messageAt (facadeOf w ss ys ms) (position a)) a ≡ deedOf (w .config) m a)
           (λ _. refl) (λ _. refl) (λ _. refl) (λ _. refl) (λ _. refl) (λ _. refl) (λ _. refl)
           (λ q. ap (delivered (w .config)) (named-message (kept-names (atHand w l x) (deliver (s .first) (s .second)) q)))
           (λ _. refl) (λ _. refl) (λ _. refl) none
 
-      same-taken : takenOut (facadeOf w ss ys ms) (action s) ≡ withoutIf (facadeOf w ss ys ms) (s .first) (takes (action s))
-      unfolding takenOut takes position
+      same-taken : takenOut (facadeOf w ss ys ms) (actionOf s) ≡ withoutIf (facadeOf w ss ys ms) (s .first) (takesOut (actionOf s))
+      unfolding takenOut takesOut position
       same-taken =
-          kinds s (λ a. takenOut (facadeOf w ss ys ms) a ≡ withoutIf (facadeOf w ss ys ms) (s .first) (takes a))
+          kinds s (λ a. takenOut (facadeOf w ss ys ms) a ≡ withoutIf (facadeOf w ss ys ms) (s .first) (takesOut a))
           refl refl refl refl refl refl refl refl refl refl refl
 
       -- what is taken out is there
-      taken-low : T (takes (action s)) → s .first < w .waiting
-      unfolding takes exists
+      taken-low : T (takesOut (actionOf s)) → s .first < w .waiting
+      unfolding takesOut exists
       taken-low =
-          kinds s (λ a. broken (atHand w l x) a 0 ≡ 0 → T (takes a) → s .first < w .waiting)
+          kinds s (λ a. broken (atHand w l x) a 0 ≡ 0 → T (takesOut a) → s .first < w .waiting)
           (λ q b. absurd b) (λ q b. absurd b) (λ q b. absurd b) (λ q b. absurd b) (λ q b. absurd b) (λ q b. absurd b) (λ q b. absurd b)
           (λ q b. ltb→lt (s .first) (w .waiting) (kept-names (atHand w l x) (deliver (s .first) (s .second)) q))
           (λ q b. ltb→lt (s .first) (w .waiting) (kept-names (atHand w l x) (lose (s .first)) q))
@@ -222,12 +222,12 @@ module _ {w : World} {ss : List Server} {ys : List Client} {ms : List Message} {
           (λ b. omega (arith, nltb→le (m .receiver) (w .config .servers) b, for-client (w .config) (m .sender) (m .receiver) (m .body) (and-r _ _ good) b))
 
       -- what happens is in range
-      fits : DeedInRange w (deed (w .config) m (action s))
-      unfolding deed DeedInRange eventInRange exists ofPass timeLeft fieldsInRange
+      fits : DeedInRange w (deedOf (w .config) m (actionOf s))
+      unfolding deedOf DeedInRange eventInRange exists ofPass timeLeft fieldsInRange
       fits =
-          kinds s (λ a. broken (atHand w l x) a 0 ≡ 0 → DeedInRange w (deed (w .config) m a))
-          (λ q. let a = pass (s .first) (s .second) (signed (s .third)) in
-          (leb→le _ _ (kept-time (atHand w l x) a q), ltb→lt _ _ (kept-names (atHand w l x) a q), leb→le _ _ (and-r (within 1 100000 (s .first)) _ (kept-fields (atHand w l x) a q))))
+          kinds s (λ a. broken (atHand w l x) a 0 ≡ 0 → DeedInRange w (deedOf (w .config) m a))
+          (λ q. let a = pass (s .first) (s .second) (asSigned (s .third)) in
+          (leb→le _ _ (kept-time (atHand w l x) a q), ltb→lt _ _ (kept-names (atHand w l x) a q), leb→le _ _ (and-r (isWithin 1 100000 (s .first)) _ (kept-fields (atHand w l x) a q))))
           (λ q. (ltb→lt _ _ (kept-names (atHand w l x) (fail (s .first)) q), tt))
           (λ q. (ltb→lt _ _ (kept-names (atHand w l x) (return (s .first)) q), tt))
           (λ q. let b = kept-names (atHand w l x) (notice (s .first) (s .second) (s .third)) q in (ltb→lt _ _ (and-l _ _ b), and-l _ _ (and-r (ltb (s .first) (w .config .servers)) _ b)))
@@ -241,32 +241,32 @@ module _ {w : World} {ss : List Server} {ys : List Client} {ms : List Message} {
           none
 
       -- what happens, unless the cable is full, is the answer to the step
-      is-done : {taken : Bool} {d : Deed} → taken ≡ takes (action s) → d ≡ deed (w .config) m (action s)
+      is-done : {taken : Bool} {d : Deed} → taken ≡ takesOut (actionOf s) → d ≡ deedOf (w .config) m (actionOf s)
           → unlessFull (facadeOf w ss ys ms) (enacted (withoutIf (facadeOf w ss ys ms) (s .first) taken) d) ≡ step (facadeOf w ss ys ms) s
       unfolding step effect unlessFull
-      is-done p q = rw (p, q, ← same-taken, ← same-deed) (unless-full (facadeOf w ss ys ms) (action s) t (same-broken ∙ none))
+      is-done p q = rw (p, q, ← same-taken, ← same-deed) (unless-full (facadeOf w ss ys ms) (actionOf s) t (same-broken ∙ none))
 
   -- What is decided of the step, and what comes of it.
-  module _ {d : Decision} (e : d ≡ decided (atHand w l x) m (action s)) where
+  module _ {d : Decision} (e : d ≡ decided (atHand w l x) m (actionOf s)) where
     -- what happens is in range
     pub decided-fits : DeedInRange w (d .happens)
     unfolding decided DeedInRange
     decided-fits =
-        rw e (cond-case (λ (z : Decision). DeedInRange w (z .happens)) (eqb (broken (atHand w l x) (action s) 0) 0) _ _
+        rw e (cond-case (λ (z : Decision). DeedInRange w (z .happens)) (eqb (broken (atHand w l x) (actionOf s) 0) 0) _ _
         (λ t. fits _ refl (eqb→eq _ _ t)) (λ t. tt))
 
     -- what is taken out is there
     pub decided-there : T (d .taken) → s .first < w .waiting
     unfolding decided
     decided-there =
-        rw e (cond-case (λ (z : Decision). T (z .taken) → s .first < w .waiting) (eqb (broken (atHand w l x) (action s) 0) 0) _ _
+        rw e (cond-case (λ (z : Decision). T (z .taken) → s .first < w .waiting) (eqb (broken (atHand w l x) (actionOf s) 0) 0) _ _
         (λ t. taken-low _ refl (eqb→eq _ _ t)) (λ t b. absurd b))
 
     -- in a refused step no message is taken out, and nothing happens
     pub refused-rests : (d .refusal ≡ 0 → ⊥) → (d .taken ≡ false) × (d .happens ≡ Rests)
     unfolding decided
     refused-rests =
-        rw e (cond-case (λ (z : Decision). (z .refusal ≡ 0 → ⊥) → (z .taken ≡ false) × (z .happens ≡ Rests)) (eqb (broken (atHand w l x) (action s) 0) 0) _ _
+        rw e (cond-case (λ (z : Decision). (z .refusal ≡ 0 → ⊥) → (z .taken ≡ false) × (z .happens ≡ Rests)) (eqb (broken (atHand w l x) (actionOf s) 0) 0) _ _
         (λ t b. absurd (b refl)) (λ t b. (refl, refl)))
 
     -- the answer is the refusal, or what happens unless the cable is full
@@ -275,9 +275,9 @@ module _ {w : World} {ss : List Server} {ys : List Client} {ms : List Message} {
     unfolding decided
     is-decided =
         let f = facadeOf w ss ys ms in
-        rw e (cond-case (λ (z : Decision). unlessRefused f (z .refusal) (unlessFull f (enacted (withoutIf f (s .first) (z .taken)) (z .happens))) ≡ step f s) (eqb (broken (atHand w l x) (action s) 0) 0) _ _
+        rw e (cond-case (λ (z : Decision). unlessRefused f (z .refusal) (unlessFull f (enacted (withoutIf f (s .first) (z .taken)) (z .happens))) ≡ step f s) (eqb (broken (atHand w l x) (actionOf s) 0) 0) _ _
         (λ t. is-done _ refl (eqb→eq _ _ t) refl refl)
-        (λ t. rw (ne-eqb (broken (atHand w l x) (action s) 0) 0 (not-eqb _ _ t)) (is-refused _ refl (not-eqb _ _ t))))
+        (λ t. rw (ne-eqb (broken (atHand w l x) (actionOf s) 0) 0 (not-eqb _ _ t)) (is-refused _ refl (not-eqb _ _ t))))
 
     pub is-refused-so : (d .refusal ≡ 0 → ⊥) → refused (facadeOf w ss ys ms) (d .refusal) ≡ step (facadeOf w ss ys ms) s
     is-refused-so h = rw (ne-eqb (d .refusal) 0 h) at is-decided
@@ -299,7 +299,7 @@ module _ (w : World) (ss : List Server) (ys : List Client) (ms : List Message) (
   rests-is false = rw (none-more (w .waiting))
 
   pub passes-is : (b : Bool) (d q : ℕ) (e : ℤ) {g : World} {zs : List Client} → g ≡ movedIn w d q e
-      → zs ≡ ended (g .config) (g .time) (g .offsets) ys → enacted (out b) (Passes d q e) ≡ settled g ss zs ms p b nothing 0
+      → zs ≡ holdsEnded (g .config) (g .time) (g .offsets) ys → enacted (out b) (Passes d q e) ≡ settled g ss zs ms p b nothing 0
   unfolding enacted lapse sentBehind
   passes-is true d q e h k = rw (k, h, none-more (w .waiting - 1))
   passes-is false d q e h k = rw (k, h, none-more (w .waiting))
@@ -345,7 +345,7 @@ module _ (f : Facade) (w : World) (ss : List Server) (ys : List Client) (p : ℕ
 
 -- A step of which no rule is broken but perhaps the last, by what happens.
 module _ {w : World} {ss : List Server} {ys : List Client} {ms : List Message} {s : Step} {l : Lives} {m : Message} {x : State} (h : Hand w ss ys ms s l m x)
-    {d : Decision} (e : d ≡ decided (atHand w l x) m (action s)) (z : d .refusal ≡ 0) {a : Answer} (i : enacted (out w ss ys ms (s .first) (d .taken)) (d .happens) ≡ a) where
+    {d : Decision} (e : d ≡ decided (atHand w l x) m (actionOf s)) (z : d .refusal ≡ 0) {a : Answer} (i : enacted (out w ss ys ms (s .first) (d .taken)) (d .happens) ≡ a) where
   pub left-out : 128 < a .facade .waiting → refused (facadeOf w ss ys ms) 13 ≡ step (facadeOf w ss ys ms) s
   unfolding unlessFull unless
   left-out u = (rw (i, lt-leb (a .facade .waiting) 128 u) at (is-done-so h e z))

@@ -1,11 +1,10 @@
 // A whole facade: fresh, a step of any kind, and how many clients hold.
-use arith::both;
-use cable::exchange;
-use cable::has_room;
+use cable::exchanged;
 use cable::rest_of;
-use client::is_holding;
-use clocks::end_holds;
-use clocks::move_on;
+use cable::room_for;
+use client::held_among;
+use clocks::holds_ended;
+use clocks::moved_in;
 use decisions::decided;
 use deeds::asked_in;
 use deeds::next_after;
@@ -13,7 +12,7 @@ use deeds::notices_after;
 use deeds::served_at;
 use outbox::nothing;
 use ranges::config_in_range;
-use ranges::facade_in_range;
+use ranges::in_range;
 use steps::action_of;
 use steps::malformed;
 use types::Answer;
@@ -44,17 +43,17 @@ ghost use Rattle.rules.specs.Messages.{withoutIf};
 ghost use Rattle.rules.specs.Client.{isHolding};
 ghost use Rattle.rules.specs.Ranges.{inRange};
 ghost use Rattle.rules.specs.Views.{worldOf};
-ghost use Rattle.rules.specs.Steps.{fresh as freshFacade, start, refused as refusedWith, enacted, step as stepOf, heldAmong, heldClients};
+ghost use Rattle.rules.specs.Steps.{fresh as fresh′, start as start′, refused as refused′, enacted, step as step′, heldAmong, heldClients};
 ghost use Rattle.deeds.specs.Deeds.{DeedInRange};
 ghost use Rattle.facade.specs.Settled.{settled, unlessFull};
 
 // Before any step. All places are filled alike.
-fn fresh_facade(c: Config) -> Facade
-    ensures { λ r. ⌜ r ≡ freshFacade c ⌝ }
+fn fresh(c: Config) -> Facade
+    ensures { λ r. ⌜ r ≡ fresh′ c ⌝ }
 {
-    let s = server::cleared(true, 0, 0, [0; 32]);
+    let s = server::cleared_server(true, 0, 0, [0; 32]);
     let idle = Client { state: State::Idle };
-    let empty = outbox::empty();
+    let empty = outbox::no_message();
     Facade {
         config: c,
         time: 0,
@@ -69,8 +68,8 @@ fn fresh_facade(c: Config) -> Facade
 }
 
 // A refused step returns the facade it was given.
-fn refuse(f: Facade, n: u32) -> Answer
-    ensures { λ r. ⌜ r ≡ refusedWith f n ⌝ }
+fn refused(f: Facade, n: u32) -> Answer
+    ensures { λ r. ⌜ r ≡ refused′ f n ⌝ }
 {
     Answer {
         refusal: n,
@@ -80,10 +79,10 @@ fn refuse(f: Facade, n: u32) -> Answer
 }
 
 // The fresh facade of a configuration, with refusal 2 where a number of it is out of range.
-pub fn fresh(c: Config) -> Answer
-    ensures { λ r. ⌜ r ≡ start c ⌝ }
+pub fn start(c: Config) -> Answer
+    ensures { λ r. ⌜ r ≡ start′ c ⌝ }
 {
-    let f = fresh_facade(c);
+    let f = fresh(c);
     if config_in_range(c) {
         return Answer {
             refusal: 0,
@@ -91,7 +90,7 @@ pub fn fresh(c: Config) -> Answer
             facade: f,
         };
     }
-    refuse(f, 2)
+    refused(f, 2)
 }
 
 // The facade after a step: w, ss and ys are its world, servers and clients, and of the messages of f that at p is taken out if
@@ -109,9 +108,9 @@ fn settle(
     requires { ⌜ (f .waiting ≤ 128) × (w .waiting ≡ f .waiting) × (sent .count ≤ 4) × (T taken → p < f .waiting) ⌝ }
     ensures { λ r. ⌜ r ≡ unlessFull f (settled w ss ys (f .messages) p taken sent outcome) ⌝ }
 {
-    if has_room(f.waiting, taken, sent.count) {
+    if room_for(f.waiting, taken, sent.count) {
         let ms = f.messages;
-        let rest = exchange(ms, p, f.waiting, taken, sent);
+        let rest = exchanged(ms, p, f.waiting, taken, sent);
         let mut g = w;
         g.waiting = rest_of(f.waiting, taken) + sent.count;
         let h = facade_of(g, ss, ys, rest);
@@ -121,7 +120,7 @@ fn settle(
             facade: h,
         };
     }
-    refuse(f, 13)
+    refused(f, 13)
 }
 
 // An event of server k.
@@ -131,9 +130,9 @@ fn serve(f: Facade, p: u32, taken: bool, k: u32, e: ServerEvent) -> Answer
 {
     let at = k as usize;
     let mut ss = f.servers;
-    let own = ss[at];
+    let s = ss[at];
     let mut w = world_of(f);
-    let x = served_at(w.config, w.time, w.offsets[at], k, own, e);
+    let x = served_at(w.config, w.time, w.offsets[at], k, s, e);
     let t = x.server;
     ss[at] = t;
     let now = notices_after(w, k, e);
@@ -173,8 +172,8 @@ fn enact(f: Facade, p: u32, taken: bool, happens: Deed) -> Answer
     match happens {
         Deed::Rests => settle(f, w, ss, ys, p, taken, none, 0),
         Deed::Passes(d, q, e) => {
-            let g = move_on(w, d, q, e);
-            let left = end_holds(g, ys);
+            let g = moved_in(w, d, q, e);
+            let left = holds_ended(g, ys);
             settle(f, g, ss, left, p, taken, none, 0)
         }
         Deed::Serves(k, e) => serve(f, p, taken, k, e),
@@ -185,7 +184,7 @@ fn enact(f: Facade, p: u32, taken: bool, happens: Deed) -> Answer
 // A step of a facade that is in range. At hand are the message and the client with the number in its first field.
 fn step_in_range(f: Facade, s: Step) -> Answer
     requires { ⌜ T (inRange f) ⌝ }
-    ensures { λ r. ⌜ r ≡ stepOf f s ⌝ }
+    ensures { λ r. ⌜ r ≡ step′ f s ⌝ }
 {
     let x = action_of(s);
     let from = place_below(128, s.first);
@@ -195,7 +194,7 @@ fn step_in_range(f: Facade, s: Step) -> Answer
     let ss = f.servers;
     let d = decided(malformed(x), world_of(f), lives_of(ss), y, m, x);
     if d.refusal != 0 {
-        return refuse(f, d.refusal);
+        return refused(f, d.refusal);
     }
     let happens = d.happens;
     enact(f, s.first, d.taken, happens)
@@ -203,48 +202,16 @@ fn step_in_range(f: Facade, s: Step) -> Answer
 
 // The answer to a step, for every facade, kind number and fields.
 pub fn step(f: Facade, s: Step) -> Answer
-    ensures { λ r. ⌜ r ≡ stepOf f s ⌝ }
+    ensures { λ r. ⌜ r ≡ step′ f s ⌝ }
 {
-    if facade_in_range(f) {
+    if in_range(f) {
         return step_in_range(f, s);
     }
-    refuse(f, 2)
-}
-
-// Whether i is one of the clients and holds.
-fn does_hold(c: Config, ys: [Client; 32], i: u32) -> bool
-    requires { ⌜ i < 32 ⌝ }
-    ensures { λ r. ⌜ r ≡ (ltb i (c .clients) and isHolding ((getD ys i noClient) .state)) ⌝ }
-{
-    let at = i as usize;
-    let y = ys[at];
-    let state = y.state;
-    both(i < c.clients, is_holding(state))
-}
-
-// One more if b is true.
-fn one_more_if(b: bool, n: u32) -> u32
-    requires { ⌜ n < 32 ⌝ }
-    ensures { λ r. ⌜ r ≡ cond b (n + 1) n ⌝ }
-{
-    if b { n + 1 } else { n }
-}
-
-// How many of these clients hold, of which the configuration says how many there are.
-pub fn held_among(c: Config, ys: [Client; 32]) -> u32
-    ensures { λ r. ⌜ r ≡ heldAmong c ys ⌝ }
-{
-    let mut n = 0;
-    let mut i = 0;
-    while i < 32 {
-        n = one_more_if(does_hold(c, ys, i), n);
-        i += 1;
-    }
-    n
+    refused(f, 2)
 }
 
 // How many clients of a facade hold.
-pub fn held(f: Facade) -> u32
+pub fn held_clients(f: Facade) -> u32
     ensures { λ r. ⌜ r ≡ heldClients f ⌝ }
 {
     let ys = f.clients;

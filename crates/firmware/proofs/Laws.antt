@@ -13,12 +13,12 @@ use Rattle.rules.specs.Conditions.{_and_}
 use Rattle.rules.proofs.Laws.{true-of, and-l, and-r}
 use Rattle.wire.specs.Numbers.{over}
 use Rattle.flat.specs.Blocks.{codes}
-use Rattle.flat.specs.Flat.{serverNumbers, serverIn, clientNumbers, clientIn, messageNumbers, messageIn, outboxNumbers, isMessage}
+use Rattle.flat.specs.Flat.{serverNumbers, serverIn, clientNumbers, clientIn, messageNumbers, messageIn, outboxNumbers, codesMessage}
 use Rattle.flat.specs.Shape.{OutboxShaped}
 use Rattle.flat.proofs.Blocks.{coded-length}
 use Rattle.flat.proofs.Back.{outbox-back}
 use Rattle.flatten.proofs.Laws.{over-whole}
-use Rattle.firmware.specs.Firmware.{Left, leaves, given, codesServer, codesClient}
+use Rattle.firmware.specs.Firmware.{Left, leaves, partyLeft, areServerLists, areClientLists}
 
 -- A list that codes something has its length w, and so have the lists that are tested with it.
 
@@ -32,18 +32,18 @@ module _ {A : Type 0} (numbers : A → List ℕ) (read : List ℕ → A) (w : �
       let u = and-r (eqb (length c) 7) _ t in
       (eqb→eq (length c) 7 (and-l (eqb (length c) 7) _ t), eqb→eq (length o) 29 (and-l (eqb (length o) 29) _ u), its-length (and-r (eqb (length o) 29) _ u))
 
-pub server-lengths : (c s o : List ℕ) → codesServer c s o ≡ true → (length c ≡ 7) × (length o ≡ 29) × (length s ≡ 423)
-unfolding codesServer
-server-lengths c s o e = let t : T (codesServer c s o) = rw e tt in lengths serverNumbers (λ l. serverIn l 0) 423 s c o t
+pub server-lengths : (c s o : List ℕ) → areServerLists c s o ≡ true → (length c ≡ 7) × (length o ≡ 29) × (length s ≡ 423)
+unfolding areServerLists
+server-lengths c s o e = let t : T (areServerLists c s o) = rw e tt in lengths serverNumbers (λ l. serverIn l 0) 423 s c o t
 
-pub client-lengths : (c y o : List ℕ) → codesClient c y o ≡ true → (length c ≡ 7) × (length o ≡ 29) × (length y ≡ 4)
-unfolding codesClient
-client-lengths c y o e = let t : T (codesClient c y o) = rw e tt in lengths clientNumbers (λ l. clientIn l 0) 4 y c o t
+pub client-lengths : (c y o : List ℕ) → areClientLists c y o ≡ true → (length c ≡ 7) × (length o ≡ 29) × (length y ≡ 4)
+unfolding areClientLists
+client-lengths c y o e = let t : T (areClientLists c y o) = rw e tt in lengths clientNumbers (λ l. clientIn l 0) 4 y c o t
 
-pub message-length : (b : Bool) (m : List ℕ) → (b and isMessage m) ≡ true → length m ≡ 7
+pub message-length : (b : Bool) (m : List ℕ) → (b and codesMessage m) ≡ true → length m ≡ 7
 message-length b m e =
-    let t : T (b and isMessage m) = rw e tt in
-    its-length messageNumbers (λ l. messageIn l 0) 7 m (and-r b (isMessage m) t)
+    let t : T (b and codesMessage m) = rw e tt in
+    its-length messageNumbers (λ l. messageIn l 0) 7 m (and-r b (codesMessage m) t)
 
 -- the tests in the order that the code makes them
 pub tests-are : (p q b v w z : Bool) → v ≡ b → w ≡ (q and v) → z ≡ (p and w) → z ≡ (p and q and b)
@@ -51,17 +51,17 @@ tests-are p q b v w z d e f = rw (f, e, d)
 
 -- What is left of the lists p and o, and the outcome.
 module _ (refusal : ℕ) (numbers : List ℕ) (messages : Outbox) (outcome : ℕ) (p o : List ℕ) where
-  pub refused : (refusal ≡ 0 → ⊥) → leaves refusal p o 0 ≡ given refusal numbers messages outcome p o
-  unfolding given
+  pub refused : (refusal ≡ 0 → ⊥) → leaves refusal p o 0 ≡ partyLeft refusal numbers messages outcome p o
+  unfolding partyLeft
   refused z = rw (ne-eqb refusal 0 z)
 
-  pub codes-nothing : (b : Bool) → b ≡ false → leaves 2 p o 0 ≡ given (cond b refusal 2) numbers messages outcome p o
-  unfolding given
+  pub codes-nothing : (b : Bool) → b ≡ false → leaves 2 p o 0 ≡ partyLeft (cond b refusal 2) numbers messages outcome p o
+  unfolding partyLeft
   codes-nothing b h = rw h
 
   pub put : (w : ℕ) → refusal ≡ 0 → length p ≡ w → length numbers ≡ w → length o ≡ 29 → OutboxShaped messages
-      → {q u : List ℕ} → q ≡ over p 0 numbers → u ≡ over o 0 (outboxNumbers messages) → leaves 0 q u outcome ≡ given refusal numbers messages outcome p o
-  unfolding given
+      → {q u : List ℕ} → q ≡ over p 0 numbers → u ≡ over o 0 (outboxNumbers messages) → leaves 0 q u outcome ≡ partyLeft refusal numbers messages outcome p o
+  unfolding partyLeft
   put w z h k i j d e =
       rw (z, d ∙ over-whole p numbers (k ∙ sym h), e ∙ over-whole o (outboxNumbers messages) (outbox-back .width messages j ∙ sym i))
 

@@ -7,22 +7,25 @@ use flat::client_in;
 use flat::config_in;
 use flat::message_in;
 use flat::server_in;
-use flatten::is_client;
-use flatten::is_message;
-use flatten::is_server;
+use flatten::codes_client;
+use flatten::codes_message;
+use flatten::codes_server;
 use flatten::put_client;
 use flatten::put_outbox;
 use flatten::put_server;
 ghost use mathlib.Core.Bool.{true};
 ghost use mathlib.Core.Path.{_≡_};
 ghost use lib.ListN.{length};
-ghost use Rattle.firmware.specs.Firmware.{leaves, serverLeft, codesServer, messageLeft, noticeLeft, returnLeft, cleanupLeft, clientLeft, codesClient, replyLeft, discoverLeft, requestLeft, renewLeft, lapseLeft};
+ghost use Rattle.firmware.specs.Firmware.{leaves, serverLeft, areServerLists, receiveMessageLeft, takeNoticeLeft, comeBackLeft, cleanUpLeft, clientLeft, areClientLists, receiveReplyLeft, discoverLeft, requestLeft, renewLeft, passTimeLeft};
 
 // Whether the lists code a configuration and a server, with room for what is sent.
-fn codes_server(config: &[u32], server: &[u32], sent: &[u32]) -> bool
-    ensures { λ r. ⌜ r ≡ codesServer (now (config .entry)) (now (server .entry)) (now (sent .entry)) ⌝ }
+fn are_server_lists(config: &[u32], server: &[u32], sent: &[u32]) -> bool
+    ensures { λ r. ⌜ r ≡ areServerLists (now (config .entry)) (now (server .entry)) (now (sent .entry)) ⌝ }
 {
-    both(config.len() == 7, both(sent.len() == 29, is_server(server)))
+    both(
+        config.len() == 7,
+        both(sent.len() == 29, codes_server(server)),
+    )
 }
 
 // The reply of a server: put where it is not refused, and else outcome 0.
@@ -55,16 +58,19 @@ pub extern "C" fn hoyllaqe_receive_message(
     sent: &mut [u32],
     outcome: &mut u32,
 ) -> u32
-    ensures { λ n. ⌜ leaves n (now (server .exit)) (now (sent .exit)) (now (outcome .exit)) ≡ messageLeft (now (config .entry)) number reading (now (server .entry)) (now (message .entry)) (now (sent .entry)) ⌝ }
+    ensures { λ n. ⌜ leaves n (now (server .exit)) (now (sent .exit)) (now (outcome .exit)) ≡ receiveMessageLeft (now (config .entry)) number reading (now (server .entry)) (now (message .entry)) (now (sent .entry)) ⌝ }
 {
-    if !both(codes_server(config, server, sent), is_message(message)) {
+    if !both(
+        are_server_lists(config, server, sent),
+        codes_message(message),
+    ) {
         *outcome = 0;
         return 2;
     }
     let c = config_in(config, 0);
     let s = server_in(server, 0);
     let m = message_in(message, 0);
-    let x = device::receive_message(c, number, reading, s, m);
+    let x = device::device_receives(c, number, reading, s, m);
     put_server_reply(x, server, sent, outcome)
 }
 
@@ -80,15 +86,15 @@ pub extern "C" fn hoyllaqe_take_notice(
     sent: &mut [u32],
     outcome: &mut u32,
 ) -> u32
-    ensures { λ n. ⌜ leaves n (now (server .exit)) (now (sent .exit)) (now (outcome .exit)) ≡ noticeLeft (now (config .entry)) number reading (now (server .entry)) about says (now (sent .entry)) ⌝ }
+    ensures { λ n. ⌜ leaves n (now (server .exit)) (now (sent .exit)) (now (outcome .exit)) ≡ takeNoticeLeft (now (config .entry)) number reading (now (server .entry)) about says (now (sent .entry)) ⌝ }
 {
-    if !codes_server(config, server, sent) {
+    if !are_server_lists(config, server, sent) {
         *outcome = 0;
         return 2;
     }
     let c = config_in(config, 0);
     let s = server_in(server, 0);
-    let x = device::take_notice(c, number, reading, s, about, says);
+    let x = device::device_noticed(c, number, reading, s, about, says);
     put_server_reply(x, server, sent, outcome)
 }
 
@@ -102,15 +108,15 @@ pub extern "C" fn hoyllaqe_come_back(
     sent: &mut [u32],
     outcome: &mut u32,
 ) -> u32
-    ensures { λ n. ⌜ leaves n (now (server .exit)) (now (sent .exit)) (now (outcome .exit)) ≡ returnLeft (now (config .entry)) number reading (now (server .entry)) (now (sent .entry)) ⌝ }
+    ensures { λ n. ⌜ leaves n (now (server .exit)) (now (sent .exit)) (now (outcome .exit)) ≡ comeBackLeft (now (config .entry)) number reading (now (server .entry)) (now (sent .entry)) ⌝ }
 {
-    if !codes_server(config, server, sent) {
+    if !are_server_lists(config, server, sent) {
         *outcome = 0;
         return 2;
     }
     let c = config_in(config, 0);
     let s = server_in(server, 0);
-    let x = device::come_back(c, number, reading, s);
+    let x = device::device_returned(c, number, reading, s);
     put_server_reply(x, server, sent, outcome)
 }
 
@@ -124,23 +130,26 @@ pub extern "C" fn hoyllaqe_clean_up(
     sent: &mut [u32],
     outcome: &mut u32,
 ) -> u32
-    ensures { λ n. ⌜ leaves n (now (server .exit)) (now (sent .exit)) (now (outcome .exit)) ≡ cleanupLeft (now (config .entry)) number reading (now (server .entry)) (now (sent .entry)) ⌝ }
+    ensures { λ n. ⌜ leaves n (now (server .exit)) (now (sent .exit)) (now (outcome .exit)) ≡ cleanUpLeft (now (config .entry)) number reading (now (server .entry)) (now (sent .entry)) ⌝ }
 {
-    if !codes_server(config, server, sent) {
+    if !are_server_lists(config, server, sent) {
         *outcome = 0;
         return 2;
     }
     let c = config_in(config, 0);
     let s = server_in(server, 0);
-    let x = device::clean_up(c, number, reading, s);
+    let x = device::device_cleaned(c, number, reading, s);
     put_server_reply(x, server, sent, outcome)
 }
 
 // Whether the lists code a configuration and a client, with room for what is sent.
-fn codes_client(config: &[u32], client: &[u32], sent: &[u32]) -> bool
-    ensures { λ r. ⌜ r ≡ codesClient (now (config .entry)) (now (client .entry)) (now (sent .entry)) ⌝ }
+fn are_client_lists(config: &[u32], client: &[u32], sent: &[u32]) -> bool
+    ensures { λ r. ⌜ r ≡ areClientLists (now (config .entry)) (now (client .entry)) (now (sent .entry)) ⌝ }
 {
-    both(config.len() == 7, both(sent.len() == 29, is_client(client)))
+    both(
+        config.len() == 7,
+        both(sent.len() == 29, codes_client(client)),
+    )
 }
 
 // The reply of a client: put where it is not refused, and else outcome 0.
@@ -173,16 +182,19 @@ pub extern "C" fn hoyllaqe_receive_reply(
     sent: &mut [u32],
     outcome: &mut u32,
 ) -> u32
-    ensures { λ n. ⌜ leaves n (now (client .exit)) (now (sent .exit)) (now (outcome .exit)) ≡ replyLeft (now (config .entry)) number reading (now (client .entry)) (now (message .entry)) (now (sent .entry)) ⌝ }
+    ensures { λ n. ⌜ leaves n (now (client .exit)) (now (sent .exit)) (now (outcome .exit)) ≡ receiveReplyLeft (now (config .entry)) number reading (now (client .entry)) (now (message .entry)) (now (sent .entry)) ⌝ }
 {
-    if !both(codes_client(config, client, sent), is_message(message)) {
+    if !both(
+        are_client_lists(config, client, sent),
+        codes_message(message),
+    ) {
         *outcome = 0;
         return 2;
     }
     let c = config_in(config, 0);
     let y = client_in(client, 0);
     let m = message_in(message, 0);
-    let z = device::receive_reply(c, number, reading, y, m);
+    let z = device::device_hears(c, number, reading, y, m);
     put_client_reply(z, client, sent, outcome)
 }
 
@@ -199,13 +211,13 @@ pub extern "C" fn hoyllaqe_discover(
 ) -> u32
     ensures { λ n. ⌜ leaves n (now (client .exit)) (now (sent .exit)) (now (outcome .exit)) ≡ discoverLeft (now (config .entry)) number reading (now (client .entry)) interaction (now (sent .entry)) ⌝ }
 {
-    if !codes_client(config, client, sent) {
+    if !are_client_lists(config, client, sent) {
         *outcome = 0;
         return 2;
     }
     let c = config_in(config, 0);
     let y = client_in(client, 0);
-    let z = device::discover(c, number, reading, y, interaction);
+    let z = device::device_discovers(c, number, reading, y, interaction);
     put_client_reply(z, client, sent, outcome)
 }
 
@@ -222,13 +234,13 @@ pub extern "C" fn hoyllaqe_request(
 ) -> u32
     ensures { λ n. ⌜ leaves n (now (client .exit)) (now (sent .exit)) (now (outcome .exit)) ≡ requestLeft (now (config .entry)) number reading (now (client .entry)) wanted (now (sent .entry)) ⌝ }
 {
-    if !codes_client(config, client, sent) {
+    if !are_client_lists(config, client, sent) {
         *outcome = 0;
         return 2;
     }
     let c = config_in(config, 0);
     let y = client_in(client, 0);
-    let z = device::request(c, number, reading, y, wanted);
+    let z = device::device_requests(c, number, reading, y, wanted);
     put_client_reply(z, client, sent, outcome)
 }
 
@@ -246,13 +258,13 @@ pub extern "C" fn hoyllaqe_renew(
 ) -> u32
     ensures { λ n. ⌜ leaves n (now (client .exit)) (now (sent .exit)) (now (outcome .exit)) ≡ renewLeft (now (config .entry)) number reading (now (client .entry)) wanted interaction (now (sent .entry)) ⌝ }
 {
-    if !codes_client(config, client, sent) {
+    if !are_client_lists(config, client, sent) {
         *outcome = 0;
         return 2;
     }
     let c = config_in(config, 0);
     let y = client_in(client, 0);
-    let z = device::renew(c, number, reading, y, wanted, interaction);
+    let z = device::device_renews(c, number, reading, y, wanted, interaction);
     put_client_reply(z, client, sent, outcome)
 }
 
@@ -266,14 +278,14 @@ pub extern "C" fn hoyllaqe_pass_time(
     sent: &mut [u32],
     outcome: &mut u32,
 ) -> u32
-    ensures { λ n. ⌜ leaves n (now (client .exit)) (now (sent .exit)) (now (outcome .exit)) ≡ lapseLeft (now (config .entry)) number reading (now (client .entry)) (now (sent .entry)) ⌝ }
+    ensures { λ n. ⌜ leaves n (now (client .exit)) (now (sent .exit)) (now (outcome .exit)) ≡ passTimeLeft (now (config .entry)) number reading (now (client .entry)) (now (sent .entry)) ⌝ }
 {
-    if !codes_client(config, client, sent) {
+    if !are_client_lists(config, client, sent) {
         *outcome = 0;
         return 2;
     }
     let c = config_in(config, 0);
     let y = client_in(client, 0);
-    let z = device::pass_time(c, number, reading, y);
+    let z = device::device_lapses(c, number, reading, y);
     put_client_reply(z, client, sent, outcome)
 }

@@ -25,7 +25,7 @@ use Rattle.types.specs.declared.Outbox.{Outbox}
 use Rattle.types.specs.declared.Facade.{Facade}
 use Rattle.wire.proofs.Numbers.{complement-signed}
 use Rattle.flat.specs.Blocks.{each, eachIn}
-use Rattle.flat.specs.Flat.{plain, numberIn, flagNumber, flagNumbers, flagIn, offsetNumbers, offsetIn, configNumbers, configIn, reservedNumbers, reservedOf, reservationNumbers, reservationIn, pendingNumbers, pendingOf, writeNumbers, writeIn, leadingNumbers, endsNumbers, serverNumbers, serverIn, stateNumbers, stateOf, clientNumbers, clientIn, bodyNumbers, bodyOf, messageNumbers, messageIn, outboxNumbers, outboxIn, timesNumbers, facadeNumbers, facadeIn, isFacade, isServer, isClient, isMessage}
+use Rattle.flat.specs.Flat.{plain, numberIn, flagNumber, flagNumbers, flagIn, offsetNumbers, offsetIn, configNumbers, configIn, reservedNumbers, reservedOf, reservationNumbers, reservationIn, pendingNumbers, pendingOf, writeNumbers, writeIn, leadingNumbers, endsNumbers, serverNumbers, serverIn, stateNumbers, stateOf, clientNumbers, clientIn, bodyNumbers, bodyOf, messageNumbers, messageIn, outboxNumbers, outboxIn, timesNumbers, facadeNumbers, facadeIn, codesFacade, codesServer, codesClient, codesMessage}
 use Rattle.flat.specs.Shape.{Has, WriteShaped, ServerShaped, OutboxShaped, FacadeShaped}
 use Rattle.flat.proofs.Blocks.{Holds, holds-left, holds-right, holds-all, Back, Any, many-any, array-back, own-coded, codes-own}
 
@@ -345,16 +345,16 @@ module _ (f : Facade) where
     pub facade-back : facadeIn (facadeNumbers f) ≡ f
     facade-back = facade-reads (facadeNumbers f) (holds-all (facadeNumbers f))
 
-    pub facade-coded : isFacade (facadeNumbers f) ≡ true
+    pub facade-coded : codesFacade (facadeNumbers f) ≡ true
     facade-coded = codes-own facadeNumbers facadeIn 2778 f facade-width facade-back
 
 -- The same of a server, a client and a message by itself.
 
-pub server-coded : (s : Server) → ServerShaped s → isServer (serverNumbers s) ≡ true
+pub server-coded : (s : Server) → ServerShaped s → codesServer (serverNumbers s) ≡ true
 server-coded = own-coded ServerShaped serverNumbers serverIn 423 server-back
 
-pub client-coded : (x : Client) → isClient (clientNumbers x) ≡ true
+pub client-coded : (x : Client) → codesClient (clientNumbers x) ≡ true
 client-coded x = own-coded Any clientNumbers clientIn 4 client-back x tt
 
-pub message-coded : (m : Message) → isMessage (messageNumbers m) ≡ true
+pub message-coded : (m : Message) → codesMessage (messageNumbers m) ≡ true
 message-coded m = own-coded Any messageNumbers messageIn 7 message-back m tt

@@ -9,7 +9,7 @@ use lib.Dec.{T, eqb, eqb→eq, eqb-refl}
 use lib.ListN.{length, getD, take, length-append, List·getD-append}
 use lib.Seq.{getD-append-add, take-suc, take-all, ext-getD}
 use Rattle.rules.proofs.Laws.{true-of, and-l, and-r, and-both, all-at, all-by}
-use Rattle.flat.specs.Blocks.{each, table, eachIn, same, codes}
+use Rattle.flat.specs.Blocks.{each, table, eachIn, isSame, codes}
 use Rattle.flat.specs.Shape.{Each, Has}
 
 -- l has the numbers v from place p on
@@ -90,12 +90,12 @@ each-imp P Q f (x ∷ xs) e = (f x (e .0), each-imp P Q f xs (e .1))
 
 -- Two lists are the same numbers, and a list that codes something.
 
-same-self : (l : List ℕ) → T (same l l)
-unfolding same
+same-self : (l : List ℕ) → T (isSame l l)
+unfolding isSame
 same-self l = and-both _ _ (eqb-refl (length l)) (all-by _ (length l) (λ i h. eqb-refl (getD l i 0)))
 
-same-eq : (v l : List ℕ) → T (same v l) → v ≡ l
-unfolding same
+same-eq : (v l : List ℕ) → T (isSame v l) → v ≡ l
+unfolding isSame
 same-eq v l t =
     let e = eqb→eq (length v) (length l) (and-l _ _ t) in
     let a = and-r (eqb (length v) (length l)) _ t in
@@ -112,13 +112,13 @@ module _ {A : Type 0} (numbers : A → List ℕ) (read : List ℕ → A) (w : �
   unfolding codes
   coded-length l e =
       let t : T (codes numbers read w l) = rw e tt in
-      eqb→eq (length l) w (and-l (eqb (length l) w) (same (numbers (read l)) l) t)
+      eqb→eq (length l) w (and-l (eqb (length l) w) (isSame (numbers (read l)) l) t)
 
   pub coded : (l : List ℕ) → codes numbers read w l ≡ true → numbers (read l) ≡ l
   unfolding codes
   coded l e =
       let t : T (codes numbers read w l) = rw e tt in
-      same-eq (numbers (read l)) l (and-r (eqb (length l) w) (same (numbers (read l)) l) t)
+      same-eq (numbers (read l)) l (and-r (eqb (length l) w) (isSame (numbers (read l)) l) t)
 
 -- so many values of a shape, one behind the other
 module _ {A : Type 0} (P : A → Type 0) (numbers : A → List ℕ) (read : List ℕ → ℕ → A) (w : ℕ) (b : Back P numbers read w) where

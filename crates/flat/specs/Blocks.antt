@@ -21,9 +21,9 @@ abbrev pub eachIn : {A : Type 0} → (List ℕ → ℕ → A) → ℕ → ℕ �
 eachIn read width n l p = table (λ i. read l (p + width * i)) n
 
 -- whether two lists are the same numbers
-unfoldable pub same : List ℕ → List ℕ → Bool
-same v l = eqb (length v) (length l) and all (λ i. eqb (getD v i 0) (getD l i 0)) (length l)
+unfoldable pub isSame : List ℕ → List ℕ → Bool
+isSame v l = eqb (length v) (length l) and all (λ i. eqb (getD v i 0) (getD l i 0)) (length l)
 
 -- whether a list has so many numbers and is the flat form of what it reads as
 unfoldable pub codes : {A : Type 0} → (A → List ℕ) → (List ℕ → A) → ℕ → List ℕ → Bool
-codes numbers read width l = eqb (length l) width and same (numbers (read l)) l
+codes numbers read width l = eqb (length l) width and isSame (numbers (read l)) l

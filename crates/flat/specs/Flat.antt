@@ -22,7 +22,7 @@ use Rattle.types.specs.declared.Body.the-variants.{Empty, Discover, Offer, Requ
 use Rattle.types.specs.declared.Message.{Message}
 use Rattle.types.specs.declared.Outbox.{Outbox}
 use Rattle.types.specs.declared.Facade.{Facade}
-use Rattle.rules.specs.Clock.{signed}
+use Rattle.rules.specs.Clock.{asSigned}
 use Rattle.rules.specs.Parts.{inState, message}
 use Rattle.wire.specs.Numbers.{complement}
 use Rattle.flat.specs.Blocks.{each, eachIn, codes}
@@ -48,12 +48,12 @@ abbrev pub offsetNumbers : ℤ → List ℕ
 offsetNumbers z = plain (complement z)
 
 abbrev pub offsetIn : List ℕ → ℕ → ℤ
-offsetIn l p = signed (numberIn l p)
+offsetIn l p = asSigned (numberIn l p)
 
 -- "the configuration: S, C, A, Δ, ν, μ, θ"
 
 unfoldable pub configNumbers : Config → List ℕ
-configNumbers c = c .servers ∷ c .clients ∷ c .addresses ∷ c .skew ∷ c .silence ∷ c .mclt ∷ c .hold ∷ []
+configNumbers c = c .servers ∷ c .clients ∷ c .addresses ∷ c .skew ∷ c .detection ∷ c .mclt ∷ c .retention ∷ []
 
 abbrev pub configIn : List ℕ → ℕ → Config
 configIn l p = record {
@@ -61,9 +61,9 @@ configIn l p = record {
   clients = numberIn l (p + 1);
   addresses = numberIn l (p + 2);
   skew = numberIn l (p + 3);
-  silence = numberIn l (p + 4);
+  detection = numberIn l (p + 4);
   mclt = numberIn l (p + 5);
-  hold = numberIn l (p + 6);
+  retention = numberIn l (p + 6);
 }
 
 -- "the reservation: 0, 0, 0 for none; 1, κ, clock reading"
@@ -228,14 +228,14 @@ facadeIn l = record {
 
 -- Which lists code something: "Every facade, its unused places too, has exactly one flat form, and a list that is no facade's flat form codes nothing."
 
-abbrev pub isFacade : List ℕ → Bool
-isFacade = codes facadeNumbers facadeIn 2778
+abbrev pub codesFacade : List ℕ → Bool
+codesFacade = codes facadeNumbers facadeIn 2778
 
-abbrev pub isServer : List ℕ → Bool
-isServer = codes serverNumbers (λ l. serverIn l 0) 423
+abbrev pub codesServer : List ℕ → Bool
+codesServer = codes serverNumbers (λ l. serverIn l 0) 423
 
-abbrev pub isClient : List ℕ → Bool
-isClient = codes clientNumbers (λ l. clientIn l 0) 4
+abbrev pub codesClient : List ℕ → Bool
+codesClient = codes clientNumbers (λ l. clientIn l 0) 4
 
-abbrev pub isMessage : List ℕ → Bool
-isMessage = codes messageNumbers (λ l. messageIn l 0) 7
+abbrev pub codesMessage : List ℕ → Bool
+codesMessage = codes messageNumbers (λ l. messageIn l 0) 7

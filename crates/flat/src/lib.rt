@@ -49,9 +49,9 @@ pub fn config_in(l: &[u32], at: usize) -> Config
         clients: l[at + 1],
         addresses: l[at + 2],
         skew: l[at + 3],
-        silence: l[at + 4],
+        detection: l[at + 4],
         mclt: l[at + 5],
-        hold: l[at + 6],
+        retention: l[at + 6],
     }
 }
 

@@ -11,7 +11,7 @@ use lib.Seq.{sets-eq, take-suc, take-all, length-take-le}
 use Rattle.wire.specs.Numbers.{over}
 use Rattle.wire.proofs.Over.{over-none, over-then}
 use Rattle.rules.specs.Conditions.{_and_}
-use Rattle.flat.specs.Blocks.{each, same, codes}
+use Rattle.flat.specs.Blocks.{each, isSame, codes}
 use Rattle.flat.specs.Shape.{Each, Has}
 use Rattle.flat.proofs.Blocks.{Back, each-length, each-wide}
 use Rattle.flat.proofs.Back.{behind}
@@ -94,8 +94,8 @@ module _ {A : Type 0} (numbers : A → List ℕ) (read : List ℕ → A) (w : �
   codes-not h = rw (ne-eqb (length l) w h)
 
   pub codes-test : length l ≡ w → (x : A) → x ≡ read l → length (numbers x) ≡ w → (none : List ℕ) → length none ≡ w
-      → {back : List ℕ} → back ≡ over none 0 (numbers x) → {r : Bool} → r ≡ same back l → r ≡ codes numbers read w l
+      → {back : List ℕ} → back ≡ over none 0 (numbers x) → {r : Bool} → r ≡ isSame back l → r ≡ codes numbers read w l
   unfolding codes _and_
   codes-test e x h n none m put t =
       rw (eq-eqb (length l) w e)
-      (t ∙ ap (λ (v : List ℕ). same v l) (put ∙ over-whole none (numbers x) (n ∙ sym m) ∙ ap numbers h))
+      (t ∙ ap (λ (v : List ℕ). isSame v l) (put ∙ over-whole none (numbers x) (n ∙ sym m) ∙ ap numbers h))

@@ -13,15 +13,15 @@ use types::Reservation;
 use types::Reserved;
 use types::Server;
 use types::State;
-use wire::in_complement;
+use wire::complement;
 ghost use mathlib.Core.Path.{_≡_};
 ghost use Prim.Native.Nat.{_+_, _≤_};
 ghost use lib.ListN.{length};
 ghost use mir.Syntax.{w32};
 ghost use mir.Val.{SFits};
 ghost use Rattle.wire.specs.Numbers.{over};
-ghost use Rattle.flat.specs.Blocks.{each, same};
-ghost use Rattle.flat.specs.Flat.{plain, flagNumber, flagNumbers, offsetNumbers, configNumbers, reservedNumbers, reservationNumbers, pendingNumbers, writeNumbers, leadingNumbers, endsNumbers, serverNumbers, stateNumbers, clientNumbers, bodyNumbers, messageNumbers, outboxNumbers, timesNumbers, facadeNumbers, isFacade, isServer, isClient, isMessage};
+ghost use Rattle.flat.specs.Blocks.{each, isSame};
+ghost use Rattle.flat.specs.Flat.{plain, flagNumber, flagNumbers, offsetNumbers, configNumbers, reservedNumbers, reservationNumbers, pendingNumbers, writeNumbers, leadingNumbers, endsNumbers, serverNumbers, stateNumbers, clientNumbers, bodyNumbers, messageNumbers, outboxNumbers, timesNumbers, facadeNumbers, codesFacade, codesServer, codesClient, codesMessage};
 ghost use Rattle.flat.specs.Shape.{Has, WriteShaped, ServerShaped, OutboxShaped, FacadeShaped};
 ghost use Rattle.flatten.specs.Numbers.{threeNumbers, fourNumbers};
 
@@ -138,7 +138,7 @@ fn put_config(out: &mut [u32], at: usize, c: Config)
     ensures { λ _. ⌜ now (out .exit) ≡ over (now (out .entry)) at (configNumbers c) ⌝ }
 {
     put_four(out, at, Four(c.servers, c.clients, c.addresses, c.skew));
-    put_three(out, at + 4, Three(c.silence, c.mclt, c.hold));
+    put_three(out, at + 4, Three(c.detection, c.mclt, c.retention));
 }
 
 fn put_flag(out: &mut [u32], at: usize, b: bool)
@@ -152,7 +152,7 @@ fn put_offset(out: &mut [u32], at: usize, z: i32)
     requires { ⌜ at + 1 ≤ length (now out) ⌝ }
     ensures { λ _. ⌜ now (out .exit) ≡ over (now (out .entry)) at (offsetNumbers z) ⌝ }
 {
-    put_number(out, at, in_complement(z));
+    put_number(out, at, complement(z));
 }
 
 // Arrays: one element behind the other.
@@ -362,7 +362,7 @@ pub fn put_facade(out: &mut [u32], f: Facade)
 
 // Whether two lists are the same numbers.
 fn is_same(v: &[u32], l: &[u32]) -> bool
-    ensures { λ r. ⌜ r ≡ same (now (v .entry)) (now (l .entry)) ⌝ }
+    ensures { λ r. ⌜ r ≡ isSame (now (v .entry)) (now (l .entry)) ⌝ }
 {
     if v.len() != l.len() {
         return false;
@@ -378,8 +378,8 @@ fn is_same(v: &[u32], l: &[u32]) -> bool
 
 // Whether a list is the flat form of a facade, a server, a client, a message: it is read, and what was read is put again.
 
-pub fn is_facade(l: &[u32]) -> bool
-    ensures { λ r. ⌜ r ≡ isFacade (now (l .entry)) ⌝ }
+pub fn codes_facade(l: &[u32]) -> bool
+    ensures { λ r. ⌜ r ≡ codesFacade (now (l .entry)) ⌝ }
 {
     if l.len() != 2778 {
         return false;
@@ -390,8 +390,8 @@ pub fn is_facade(l: &[u32]) -> bool
     is_same(&back, l)
 }
 
-pub fn is_server(l: &[u32]) -> bool
-    ensures { λ r. ⌜ r ≡ isServer (now (l .entry)) ⌝ }
+pub fn codes_server(l: &[u32]) -> bool
+    ensures { λ r. ⌜ r ≡ codesServer (now (l .entry)) ⌝ }
 {
     if l.len() != 423 {
         return false;
@@ -402,8 +402,8 @@ pub fn is_server(l: &[u32]) -> bool
     is_same(&back, l)
 }
 
-pub fn is_client(l: &[u32]) -> bool
-    ensures { λ r. ⌜ r ≡ isClient (now (l .entry)) ⌝ }
+pub fn codes_client(l: &[u32]) -> bool
+    ensures { λ r. ⌜ r ≡ codesClient (now (l .entry)) ⌝ }
 {
     if l.len() != 4 {
         return false;
@@ -414,8 +414,8 @@ pub fn is_client(l: &[u32]) -> bool
     is_same(&back, l)
 }
 
-pub fn is_message(l: &[u32]) -> bool
-    ensures { λ r. ⌜ r ≡ isMessage (now (l .entry)) ⌝ }
+pub fn codes_message(l: &[u32]) -> bool
+    ensures { λ r. ⌜ r ≡ codesMessage (now (l .entry)) ⌝ }
 {
     if l.len() != 7 {
         return false;

@@ -2,6 +2,7 @@
 // makes them); then the example of document 01, written from its steps and read back; then what the writer answers at its own
 // edges, and the buffer after it.
 use libc::STDOUT_FILENO;
+use script::FIRST_RECORD;
 use types::Config;
 ghost use mathlib.Core.Path.{_≡_};
 
@@ -108,7 +109,7 @@ fn print_bytes(b: &[u8]) {
 
 // The steps of a script, a line for each: kind and fields.
 fn print_steps(s: &[u8]) {
-    let mut p = 29;
+    let mut p = FIRST_RECORD;
     while p < s.len() {
         let r = script::record_at(s, p);
         io::write_all(STDOUT_FILENO, b"step");
@@ -167,7 +168,7 @@ fn show_order(c: Config) {
     let mut bad = c;
     bad.servers = 5;
     try_writer(bad, &TWO_WRONG, &mut out);
-    let e = wire::in_complement(-3);
+    let e = wire::complement(-3);
     let back = [1, 5, 0, e];
     try_writer(c, &back, &mut out);
 }
@@ -192,9 +193,9 @@ fn main() {
         clients: 1,
         addresses: 1,
         skew: 0,
-        silence: 5,
+        detection: 5,
         mclt: 4,
-        hold: 10,
+        retention: 10,
     };
     show_example(c);
     show_room(c);

@@ -8,7 +8,7 @@ use lib.ListN.{set}
 use Rattle.types.specs.declared.Config.{Config}
 use Rattle.types.specs.declared.Server.{Server}
 use Rattle.rules.specs.Conditions.{filled}
-use Rattle.rules.specs.Parts.{leadsAt, recordAt, withLeading}
+use Rattle.rules.specs.Parts.{leadsAt, potleaseAt, withLeading}
 use Rattle.rules.proofs.Laws.{filled-ahead}
 use Rattle.rules.specs.Server.{mayLead, raised, leadsAfter, recordAfter, leadingWith}
 
@@ -30,18 +30,18 @@ module _ (c : Config) (k r : ℕ) (s : Server) (b : List Bool) where
   unfolding led
   leads-still n t e = rw e (filled-ahead _ n (s .leads) false)
 
-  record-still : (n : ℕ) (t : Server) → t ≡ led c k r s b n → recordAt t n ≡ recordAt s n
+  record-still : (n : ℕ) (t : Server) → t ≡ led c k r s b n → potleaseAt t n ≡ potleaseAt s n
   unfolding led
   record-still n t e = rw e (filled-ahead _ n (s .potlease) 0)
 
   -- as the code has it of the parts
   pub led-more : (n : ℕ) (t : Server) (l : Bool) (v : ℕ) → t ≡ led c k r s b n
-      → l ≡ mayLead c k r (t .returned) (leadsAt t n) b n → v ≡ raised c r (leadsAt t n) l (recordAt t n)
+      → l ≡ mayLead c k r (t .returned) (leadsAt t n) b n → v ≡ raised c r (leadsAt t n) l (potleaseAt t n)
       → withLeading t (t .believed) (set (t .leads) n l) (set (t .potlease) n v) ≡ led c k r s b (n + 1)
   unfolding led filled leadsAfter recordAfter
   led-more n t l v e p q =
       let p′ : l ≡ mayLead c k r (s .returned) (leadsAt s n) b n = rw (returned-still n t e, leads-still n t e) at p in
-      let q′ : v ≡ raised c r (leadsAt s n) l (recordAt s n) = rw (leads-still n t e, record-still n t e) at q in
+      let q′ : v ≡ raised c r (leadsAt s n) l (potleaseAt s n) = rw (leads-still n t e, record-still n t e) at q in
       rw (add-one, e, q′, p′)
 
   pub led-all : (n : ℕ) (t : Server) → n ≡ c .addresses → t ≡ led c k r s b n → t ≡ leadingWith c k r s b

@@ -7,8 +7,9 @@ use types::Config;
 ghost use mathlib.Core.Path.{_≡_};
 ghost use Prim.Native.Nat.{_+_, _%_, _≤_, _<_};
 ghost use Rattle.rules.specs.Order.{isFirst};
-ghost use Rattle.rules.specs.Server.{mayLead, raised};
+ghost use Rattle.rules.specs.Server.{mayLead, raised as raised′};
 ghost use Rattle.rules.proofs.Kept.{Configured};
+ghost use Rattle.rules.specs.Ranges.{lastReading};
 
 // The server after server j, of n, in the round: by a test, since a division takes longer.
 pub fn next_server(n: u32, j: u32) -> u32
@@ -36,12 +37,12 @@ fn is_first(n: u32, a: u32, k: u32, b: [bool; 4]) -> bool
         }
         j = next_server(n, j);
     }
-    let own = k as usize;
-    b[own]
+    let at = k as usize;
+    b[at]
 }
 
 // Whether it leads address a now: `returned` is its return reading, `before` whether it led it.
-pub fn leads_after(
+pub fn may_lead(
     c: Config,
     k: u32,
     r: u32,
@@ -54,14 +55,14 @@ pub fn leads_after(
     ensures { λ l. ⌜ l ≡ mayLead c k r returned before b a ⌝ }
 {
     let first = is_first(c.servers, a, k, b);
-    let due = (returned as u64) + ((2 * c.silence + 2 * c.skew) as u64);
+    let due = (returned as u64) + ((2 * c.detection + 2 * c.skew) as u64);
     both(first, either(before, due <= (r as u64)))
 }
 
 // The record of an address, v before, by whether it led it before and leads it now.
-pub fn record_after(c: Config, r: u32, before: bool, now: bool, v: u32) -> u32
-    requires { ⌜ Configured c × (r ≤ 1000001000) ⌝ }
-    ensures { λ x. ⌜ x ≡ raised c r before now v ⌝ }
+pub fn raised(c: Config, r: u32, before: bool, now: bool, v: u32) -> u32
+    requires { ⌜ Configured c × (r ≤ lastReading) ⌝ }
+    ensures { λ x. ⌜ x ≡ raised′ c r before now v ⌝ }
 {
     if both(now, !before) {
         return larger(v, r + c.mclt + 2 * c.skew);

@@ -21,12 +21,13 @@ ghost use mathlib.Core.Bool.{true, false};
 ghost use Prim.Native.Nat.{_≤_, _<_};
 ghost use lib.ListN.{set, replicate};
 ghost use Rattle.rules.specs.Parts.{message};
-ghost use Rattle.rules.specs.Messages.{nothing as nothingSent, post as posted, toOthers};
-ghost use Rattle.rules.specs.Server.{hasPassed, isFree, mayOffer, onDiscover, lowestOfferable, granted, onRequest, reservationsBy, freedIfOf, onRenew};
+ghost use Rattle.rules.specs.Messages.{nothing as nothing′, post as post′, toOthers};
+ghost use Rattle.rules.specs.Server.{hasPassed, isFree, mayOffer, onDiscover, lowestOfferable, granted as granted′, onRequest, reservationsBy, freedIfOf, onRenew};
 ghost use Rattle.rules.proofs.Kept.{Configured};
+ghost use Rattle.rules.specs.Ranges.{lastReading};
 
 // Whether the record v has passed by more than 2Δ.
-fn is_expired(c: Config, r: u32, v: u32) -> bool
+fn has_passed(c: Config, r: u32, v: u32) -> bool
     requires { ⌜ Configured c ⌝ }
     ensures { λ x. ⌜ x ≡ hasPassed c r v ⌝ }
 {
@@ -43,11 +44,11 @@ fn is_free(x: Reserved) -> bool
 }
 
 // Whether an address may be offered: led, not reserved, and its record v has passed.
-fn is_offerable(c: Config, r: u32, leads: bool, state: Reserved, v: u32) -> bool
+fn may_offer(c: Config, r: u32, leads: bool, state: Reserved, v: u32) -> bool
     requires { ⌜ Configured c ⌝ }
     ensures { λ x. ⌜ x ≡ mayOffer c r leads state v ⌝ }
 {
-    both(leads, both(is_free(state), is_expired(c, r, v)))
+    both(leads, both(is_free(state), has_passed(c, r, v)))
 }
 
 // The lowest address that may be offered, by what a server leads, reserves and has on record; 0 where there is none.
@@ -67,7 +68,7 @@ pub fn lowest_offerable(
         let at = a as usize;
         let reservation = reserved[at];
         let state = reservation.state;
-        if is_offerable(c, r, leads[at], state, records[at]) {
+        if may_offer(c, r, leads[at], state, records[at]) {
             return a;
         }
         a += 1;
@@ -82,7 +83,7 @@ pub fn on_discover(c: Config, k: u32, r: u32, b: Binding, p: u32, q: u32, a: u32
 {
     let none = nothing();
     let state = b.reserved;
-    if is_offerable(c, r, b.leads, state, b.potlease) {
+    if may_offer(c, r, b.leads, state, b.potlease) {
         let w = b.write;
         let after = Binding {
             leads: b.leads,
@@ -125,7 +126,7 @@ fn itself(k: u32) -> [bool; 4]
 // The ack with the lent end, then the writes to every other server.
 fn lease_messages(c: Config, k: u32, p: u32, q: u32, a: u32, l: u32, v: u32) -> Outbox
     requires { ⌜ c .servers ≤ 4 ⌝ }
-    ensures { λ o. ⌜ o ≡ toOthers k (λ j. message k j q (Body.Write a v)) (c .servers) (posted nothingSent (message k p q (Body.Ack a l))) ⌝ }
+    ensures { λ o. ⌜ o ≡ toOthers k (λ j. message k j q (Body.Write a v)) (c .servers) (post′ nothing′ (message k p q (Body.Ack a l))) ⌝ }
 {
     let none = nothing();
     let ack = Message {
@@ -145,9 +146,9 @@ fn lease_messages(c: Config, k: u32, p: u32, q: u32, a: u32, l: u32, v: u32) -> 
 }
 
 // Address a is lent until l, and t was wanted: v is for the others to record.
-fn grant(c: Config, k: u32, b: Binding, p: u32, q: u32, a: u32, t: u32, l: u32) -> BindingAnswer
+fn granted(c: Config, k: u32, b: Binding, p: u32, q: u32, a: u32, t: u32, l: u32) -> BindingAnswer
     requires { ⌜ Configured c × (k < c .servers) ⌝ }
-    ensures { λ x. ⌜ x ≡ granted c k b p q a t l ⌝ }
+    ensures { λ x. ⌜ x ≡ granted′ c k b p q a t l ⌝ }
 {
     let v = larger(t, l);
     let state = b.reserved;
@@ -177,10 +178,10 @@ fn freed_if_of(q: u32, x: Reserved) -> Reserved
 {
     match x {
         Reserved::Free => Reserved::Free,
-        Reserved::Taken(own, at) => if own == q {
+        Reserved::Taken(stored, at) => if stored == q {
             Reserved::Free
         } else {
-            Reserved::Taken(own, at)
+            Reserved::Taken(stored, at)
         },
     }
 }
@@ -214,11 +215,11 @@ pub fn on_request(
     a: u32,
     t: u32,
 ) -> BindingAnswer
-    requires { ⌜ Configured c × (k < c .servers) × (r ≤ 1000001000) ⌝ }
+    requires { ⌜ Configured c × (k < c .servers) × (r ≤ lastReading) ⌝ }
     ensures { λ x. ⌜ x ≡ onRequest c k r b p q a t ⌝ }
 {
-    if both(b.leads, is_expired(c, r, b.potlease)) {
-        return grant(c, k, b, p, q, a, t, r + c.mclt);
+    if both(b.leads, has_passed(c, r, b.potlease)) {
+        return granted(c, k, b, p, q, a, t, r + c.mclt);
     }
     let none = nothing();
     BindingAnswer {
@@ -240,12 +241,12 @@ pub fn on_renew(
     e: u32,
     t: u32,
 ) -> BindingAnswer
-    requires { ⌜ Configured c × (k < c .servers) × (r ≤ 1000001000) ⌝ }
+    requires { ⌜ Configured c × (k < c .servers) × (r ≤ lastReading) ⌝ }
     ensures { λ x. ⌜ x ≡ onRenew c k r b p q a e t ⌝ }
 {
     if both(b.leads, r <= e) {
         let l = larger(r + c.mclt, b.lent);
-        return grant(c, k, b, p, q, a, t, l);
+        return granted(c, k, b, p, q, a, t, l);
     }
     let none = nothing();
     BindingAnswer {

@@ -5,10 +5,10 @@ use types::Outbox;
 ghost use mathlib.Core.Path.{_≡_};
 ghost use Prim.Native.Nat.{_≤_};
 ghost use Rattle.rules.specs.Parts.{message, noMessage};
-ghost use Rattle.rules.specs.Messages.{nothing as nothingSent, post as posted, postUnless, toEach, toOthers};
+ghost use Rattle.rules.specs.Messages.{nothing as nothing′, post as post′, postUnless, toEach, toOthers};
 
 // No message: what an unused place holds.
-pub fn empty() -> Message
+pub fn no_message() -> Message
     ensures { λ r. ⌜ r ≡ noMessage ⌝ }
 {
     Message {
@@ -20,9 +20,9 @@ pub fn empty() -> Message
 }
 
 pub fn nothing() -> Outbox
-    ensures { λ r. ⌜ r ≡ nothingSent ⌝ }
+    ensures { λ r. ⌜ r ≡ nothing′ ⌝ }
 {
-    let none = empty();
+    let none = no_message();
     Outbox {
         count: 0,
         messages: [none; 4],
@@ -32,7 +32,7 @@ pub fn nothing() -> Outbox
 // One message more. There is room for four; servers send to the three others and one client.
 pub fn post(o: Outbox, m: Message) -> Outbox
     requires { ⌜ o .count ≤ 4 ⌝ }
-    ensures { λ r. ⌜ r ≡ posted o m ⌝ }
+    ensures { λ r. ⌜ r ≡ post′ o m ⌝ }
 {
     let mut p = o;
     let n = o.count;
@@ -55,7 +55,7 @@ fn post_unless(out: bool, o: Outbox, m: Message) -> Outbox
 // The message m to each of n servers, in order, and nothing else.
 pub fn to_each(m: Message, n: u32) -> Outbox
     requires { ⌜ n ≤ 4 ⌝ }
-    ensures { λ r. ⌜ r ≡ toEach (λ j. message (m .sender) j (m .interaction) (m .body)) n nothingSent ⌝ }
+    ensures { λ r. ⌜ r ≡ toEach (λ j. message (m .sender) j (m .interaction) (m .body)) n nothing′ ⌝ }
 {
     let mut out = nothing();
     let mut j = 0;

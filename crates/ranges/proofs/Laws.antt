@@ -5,7 +5,7 @@ use Prim.Native.Nat.{_+_, _≤_}
 use lib.Dec.{T, leb, leb→le}
 use Rattle.types.specs.declared.Config.{Config}
 use Rattle.types.specs.declared.Facade.{Facade}
-use Rattle.rules.specs.Conditions.{_and_, within}
+use Rattle.rules.specs.Conditions.{_and_, isWithin}
 use Rattle.rules.specs.Ranges.{configInRange, lastTime, lastInteraction, mostWaiting}
 use Rattle.rules.proofs.Laws.{and-r}
 use Rattle.rules.proofs.Kept.{Configured, configured}
@@ -15,15 +15,15 @@ told c e = configured c (rw e tt)
 
 -- the three numbers that are looked at before the places
 abbrev pub numbersInRange : Facade → Bool
-numbersInRange f = leb (f .time) lastTime and within 1 (lastInteraction + 1) (f .next) and leb (f .waiting) mostWaiting
+numbersInRange f = leb (f .time) lastTime and isWithin 1 (lastInteraction + 1) (f .next) and leb (f .waiting) mostWaiting
 
 pub waiting-told : (f : Facade) → numbersInRange f ≡ true → f .waiting ≤ 128
 waiting-told f e =
     let t : T (numbersInRange f) = rw e tt in
-    leb→le (f .waiting) 128 (and-r (within 1 (lastInteraction + 1) (f .next)) _ (and-r (leb (f .time) lastTime) _ t))
+    leb→le (f .waiting) 128 (and-r (isWithin 1 (lastInteraction + 1) (f .next)) _ (and-r (leb (f .time) lastTime) _ t))
 
 -- so they are, where the code has tested one after the other
-pub numbers-by : (f : Facade) {x y z : Bool} → x ≡ within 1 (lastInteraction + 1) (f .next) → y ≡ (x and leb (f .waiting) mostWaiting) → z ≡ (leb (f .time) lastTime and y) → z ≡ numbersInRange f
+pub numbers-by : (f : Facade) {x y z : Bool} → x ≡ isWithin 1 (lastInteraction + 1) (f .next) → y ≡ (x and leb (f .waiting) mostWaiting) → z ≡ (leb (f .time) lastTime and y) → z ≡ numbersInRange f
 numbers-by f p q r = rw (r, q, p)
 
 grouped : (b c d e : Bool) → (b and c and d and e) ≡ ((b and c and d) and e)

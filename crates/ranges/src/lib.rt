@@ -1,12 +1,17 @@
 // Refusal 2: the ranges of a configuration and of a facade handed in.
 use arith::both;
 use arith::either;
-use arith::is_not_negative;
 use arith::is_within;
 use arith::magnitude;
+use arith::not_negative;
+use types::AFTER_LAST;
 use types::Body;
 use types::Config;
 use types::Facade;
+use types::LAST_END;
+use types::LAST_READING;
+use types::LAST_TIME;
+use types::MOST_WAITING;
 use types::Message;
 use types::Pending;
 use types::Reserved;
@@ -24,8 +29,8 @@ pub fn config_in_range(c: Config) -> bool
     ensures { λ r. ⌜ r ≡ configInRange c ⌝ }
 {
     let times = both(
-        is_within(1, 10000, c.silence),
-        both(is_within(1, 1000000, c.mclt), c.hold <= 1000000),
+        is_within(1, 10000, c.detection),
+        both(is_within(1, 1000000, c.mclt), c.retention <= 1000000),
     );
     let most = both(is_within(1, 32, c.addresses), both(c.skew <= 1000, times));
     both(
@@ -45,7 +50,7 @@ pub fn interaction_in_range(n: u32, q: u32) -> bool
 fn offset_in_range(c: Config, t: u32, o: i32) -> bool
     ensures { λ r. ⌜ r ≡ offsetInRange c t o ⌝ }
 {
-    both(magnitude(o) <= c.skew, is_not_negative(t, o))
+    both(magnitude(o) <= c.skew, not_negative(t, o))
 }
 
 fn reservation_in_range(n: u32, x: Reserved) -> bool
@@ -53,7 +58,7 @@ fn reservation_in_range(n: u32, x: Reserved) -> bool
 {
     match x {
         Reserved::Free => true,
-        Reserved::Taken(q, at) => both(interaction_in_range(n, q), at <= 1000001000),
+        Reserved::Taken(q, at) => both(interaction_in_range(n, q), at <= LAST_READING),
     }
 }
 
@@ -62,7 +67,7 @@ fn write_in_range(n: u32, x: Pending) -> bool
 {
     match x {
         Pending::Closed => true,
-        Pending::Open(q, v) => both(interaction_in_range(n, q), v <= 2000000000),
+        Pending::Open(q, v) => both(interaction_in_range(n, q), v <= LAST_END),
     }
 }
 
@@ -76,10 +81,10 @@ fn address_in_range(n: u32, s: Server, a: u32) -> bool
     let reserved = reservation.state;
     let w = s.writes[at];
     let pending = w.pending;
-    let ends = both(s.potlease[at] <= 2000000000, write_in_range(n, pending));
+    let ends = both(s.potlease[at] <= LAST_END, write_in_range(n, pending));
     both(
         reservation_in_range(n, reserved),
-        both(s.lent[at] <= 2000000000, ends),
+        both(s.lent[at] <= LAST_END, ends),
     )
 }
 
@@ -104,7 +109,7 @@ pub fn server_in_range(c: Config, t: u32, n: u32, s: Server) -> bool
 {
     both(
         s.changed <= t,
-        both(s.returned <= 1000001000, addresses_in_range(c, n, s)),
+        both(s.returned <= LAST_READING, addresses_in_range(c, n, s)),
     )
 }
 
@@ -118,7 +123,7 @@ pub fn state_in_range(c: Config, n: u32, x: State) -> bool
         State::Waiting(q, a) => both(interaction_in_range(n, q), a < c.addresses),
         State::Holding(a, e, q) => both(
             a < c.addresses,
-            both(e <= 2000000000, interaction_in_range(n, q)),
+            both(e <= LAST_END, interaction_in_range(n, q)),
         ),
     }
 }
@@ -145,17 +150,14 @@ fn body_in_range(c: Config, from: u32, to: u32, body: Body) -> bool
         Body::Empty => false,
         Body::Discover => both(by_client, to_server),
         Body::Offer(a) => both(by_server, both(to_client, a < n)),
-        Body::Request(a, t) => both(by_client, both(to_server, both(a < n, t <= 2000000000))),
+        Body::Request(a, t) => both(by_client, both(to_server, both(a < n, t <= LAST_END))),
         Body::Renew(a, e, t) => both(
             by_client,
-            both(
-                to_server,
-                both(a < n, both(e <= 2000000000, t <= 2000000000)),
-            ),
+            both(to_server, both(a < n, both(e <= LAST_END, t <= LAST_END))),
         ),
-        Body::Write(a, v) => both(by_server, both(to_server, both(a < n, v <= 2000000000))),
-        Body::WriteAck(a, v) => both(by_server, both(to_server, both(a < n, v <= 2000000000))),
-        Body::Ack(a, e) => both(by_server, both(to_client, both(a < n, e <= 2000000000))),
+        Body::Write(a, v) => both(by_server, both(to_server, both(a < n, v <= LAST_END))),
+        Body::WriteAck(a, v) => both(by_server, both(to_server, both(a < n, v <= LAST_END))),
+        Body::Ack(a, e) => both(by_server, both(to_client, both(a < n, e <= LAST_END))),
     }
 }
 
@@ -291,14 +293,14 @@ fn places_in_range(f: Facade) -> bool
 }
 
 // Whether every number of a facade is in its range.
-pub fn facade_in_range(f: Facade) -> bool
+pub fn in_range(f: Facade) -> bool
     ensures { λ r. ⌜ r ≡ inRange f ⌝ }
 {
     let c = f.config;
     if config_in_range(c) {
         if both(
-            f.time <= 1000000000,
-            both(is_within(1, 1000001, f.next), f.waiting <= 128),
+            f.time <= LAST_TIME,
+            both(is_within(1, AFTER_LAST, f.next), f.waiting <= MOST_WAITING),
         ) {
             return places_in_range(f);
         }

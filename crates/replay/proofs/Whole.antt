@@ -15,24 +15,24 @@ use Rattle.rules.proofs.Ranges.{fresh-sound}
 use Rattle.rules.proofs.Bounds.{unless-high}
 use Rattle.wire.specs.Numbers.{over}
 use Rattle.wire.proofs.Over.{over-length}
-use Rattle.script.specs.Reading.{longest, isScript, configIn, headerIn}
+use Rattle.script.specs.Reading.{longest, isScript, configRead, headerIn}
 use Rattle.script.specs.declared.Header.{Header}
 use Rattle.report.specs.Lines.{recordLine, facadeLine}
 use Rattle.report.proofs.Laws.{Put, record-line-short, facade-line-short}
 use Rattle.turns.specs.declared.Progress.{Progress}
 use Rattle.turns.specs.Turns.{before, linesFrom, UnderWay}
-use Rattle.replay.specs.Output.{firstLine, beginning, output, mostOutput, outputLength, buffer}
+use Rattle.replay.specs.Output.{firstLine, beginning, output, mostOutput, outputLength, outputInto}
 use Rattle.turns.proofs.Lines.{lines-fit}
 
 -- a short buffer is left as it is
-pub short-is-left : (s l : List ℕ) → length l < mostOutput → (0 ≡ outputLength s (length l)) × (l ≡ buffer s l)
-unfolding outputLength buffer
+pub short-is-left : (s l : List ℕ) → length l < mostOutput → (0 ≡ outputLength s (length l)) × (l ≡ outputInto s l)
+unfolding outputLength outputInto
 short-is-left s l h = rw (lt-leb mostOutput (length l) h) (refl, refl)
 
 -- any other has the output put at its front
 pub all-is-put : (s l : List ℕ) (r : ℕ) {m : List ℕ} → mostOutput ≤ length l → Put l 0 (output s) r m
-    → (r ≡ outputLength s (length l)) × (m ≡ buffer s l)
-unfolding outputLength buffer
+    → (r ≡ outputLength s (length l)) × (m ≡ outputInto s l)
+unfolding outputLength outputInto
 all-is-put s l r h p = rw (le-leb mostOutput (length l) h) (omega arith, p .1)
 
 -- the first line is put
@@ -72,7 +72,7 @@ module _ (s : List ℕ) (h : Header) (e : h ≡ headerIn s) where
       let ok = rw e at t in
       rw e
       (cond-case (λ (x : Header). x .refusal ≡ 0 → T (configInRange (x .config))) (isScript s) _ _
-      (λ b z. unless-ok (configInRange (configIn s)) 2 0 (omega arith) z .0)
+      (λ b z. unless-ok (configInRange (configRead s)) 2 0 (omega arith) z .0)
       (λ b z. absurd (omega arith)) ok)
 
 -- the refusal of any header is 0, 1 or 2
@@ -149,8 +149,8 @@ output-fits s = go ((beginning s) .ended) refl where
   go false e = rw (output-begun s e) (omega (arith, length-append (firstLine s) (begun (length s + 1) s), first-line-short s, begun-fits s e (length s + 1)))
 
 -- so what is put lies within the buffer
-pub lies-within : (s l m : List ℕ) (r : ℕ) → r ≡ outputLength s (length l) → m ≡ buffer s l → r ≤ length m
-unfolding outputLength buffer
+pub lies-within : (s l m : List ℕ) (r : ℕ) → r ≡ outputLength s (length l) → m ≡ outputInto s l → r ≤ length m
+unfolding outputLength outputInto
 lies-within s l m r d e = rw (d, e) (go (leb mostOutput (length l)) (leb→le mostOutput (length l))) where
   go : (b : Bool) → (T b → mostOutput ≤ length l) → cond b (length (output s)) 0 ≤ length (cond b (over l 0 (output s)) l)
   go true h = omega (arith, h tt, output-fits s, over-length l 0 (output s) (omega (arith, h tt, output-fits s)))

@@ -11,6 +11,7 @@ use Rattle.script.specs.Reading.{headerIn}
 use Rattle.turns.specs.declared.Progress.{Progress}
 use Rattle.turns.specs.Turns.{before, linesFrom}
 use Rattle.report.specs.Lines.{recordLine, facadeLine}
+use Rattle.script.specs.Layout.{firstRecord}
 
 -- the first line, or the only one of a script whose header is refused
 unfoldable pub firstLine : List ℕ → List ℕ
@@ -18,7 +19,7 @@ firstLine s = cond (eqb ((headerIn s) .refusal) 0) (facadeLine ((headerIn s) .co
 
 -- the run behind it, which has ended where the header is refused
 unfoldable pub beginning : List ℕ → Progress
-beginning s = before (fresh ((headerIn s) .config)) 29 1 (not (eqb ((headerIn s) .refusal) 0))
+beginning s = before (fresh ((headerIn s) .config)) firstRecord 1 (not (eqb ((headerIn s) .refusal) 0))
 
 -- all that the rig prints; there are no more records than bytes, and one turn more ends the run
 unfoldable pub output : List ℕ → List ℕ
@@ -35,8 +36,8 @@ unfoldable pub outputLength : List ℕ → ℕ → ℕ
 outputLength s n = cond (leb mostOutput n) (length (output s)) 0
 
 -- the buffer after it
-unfoldable pub buffer : List ℕ → List ℕ → List ℕ
-buffer s l = cond (leb mostOutput (length l)) (over l 0 (output s)) l
+unfoldable pub outputInto : List ℕ → List ℕ → List ℕ
+outputInto s l = cond (leb mostOutput (length l)) (over l 0 (output s)) l
 
 -- The same piece by piece: a piece has the lines of so many turns, and the buffer has room for any piece.
 abbrev pub pieceTurns : ℕ

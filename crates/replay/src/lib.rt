@@ -1,8 +1,9 @@
 // The run of a whole script: the lines that the rig prints, put into a lent buffer, all at once or piece by piece.
-use facade::fresh;
+use facade::start;
 use report::put_facade_line;
 use report::put_record_line;
-use script::read_header;
+use script::FIRST_RECORD;
+use script::header_in;
 use turns::Piece;
 use turns::Progress;
 use turns::put_turns;
@@ -12,7 +13,7 @@ ghost use Prim.Native.Nat.{_≤_};
 ghost use lib.ListN.{length};
 ghost use Rattle.wire.specs.Numbers.{over};
 ghost use Rattle.turns.specs.Turns.{linesFrom, progressFrom, UnderWay};
-ghost use Rattle.replay.specs.Output.{firstLine, beginning, outputLength, buffer, pieceTurns, mostPiece};
+ghost use Rattle.replay.specs.Output.{firstLine, beginning, outputLength, outputInto, pieceTurns, mostPiece};
 
 // The first line of a script's run. The run has ended where the header is refused.
 pub fn begin(s: &[u8], out: &mut [u8]) -> Piece
@@ -20,12 +21,12 @@ pub fn begin(s: &[u8], out: &mut [u8]) -> Piece
     ensures { λ x. ⌜ (x .progress ≡ beginning (now (s .entry))) × (x .end ≡ length (firstLine (now (s .entry)))) ⌝ }
     ensures { λ _. ⌜ now (out .exit) ≡ over (now (out .entry)) 0 (firstLine (now (s .entry))) ⌝ }
 {
-    let h = read_header(s);
-    let x = fresh(h.config);
+    let h = header_in(s);
+    let x = start(h.config);
     let f = x.facade;
     let r = Progress {
         facade: f,
-        place: 29,
+        place: FIRST_RECORD,
         number: 1,
         ended: h.refusal != 0,
     };
@@ -54,9 +55,9 @@ pub fn go_on(s: &[u8], r: Progress, out: &mut [u8]) -> Piece
 
 // Runs a script and answers how long its output is, which is put at the front of the buffer. A buffer of less than
 // 1,048,576 bytes is left as it is.
-pub fn run(s: &[u8], out: &mut [u8]) -> usize
+pub fn put_output(s: &[u8], out: &mut [u8]) -> usize
     ensures { λ r. ⌜ r ≡ outputLength (now (s .entry)) (length (now (out .entry))) ⌝ }
-    ensures { λ _. ⌜ now (out .exit) ≡ buffer (now (s .entry)) (now (out .entry)) ⌝ }
+    ensures { λ _. ⌜ now (out .exit) ≡ outputInto (now (s .entry)) (now (out .entry)) ⌝ }
 {
     if out.len() < 1048576 {
         return 0;

@@ -3,6 +3,7 @@
 // with 3.
 use libc::STDIN_FILENO;
 use libc::STDOUT_FILENO;
+use script::FIRST_RECORD;
 use types::Config;
 use types::Step;
 ghost use Prim.Native.Nat.{_+_, _≤_};
@@ -25,7 +26,7 @@ fn read_rows(s: &[u8], rows: &mut [u32]) -> usize
     ensures { λ n. ⌜ Counts n (now (rows .exit)) ⌝ }
 {
     let mut n = 0;
-    let mut p = 29;
+    let mut p = FIRST_RECORD;
     while p < s.len() {
         let r = script::record_at(s, p);
         if r.refusal == 3 {
@@ -57,7 +58,7 @@ fn main() {
     let n = io::read_full(STDIN_FILENO, &mut script);
     io::print_decimal(STDOUT_FILENO, script::verdict(&script[..n]) as u64);
     io::write_all(STDOUT_FILENO, b"\n");
-    let h = script::read_header(&script[..n]);
+    let h = script::header_in(&script[..n]);
     let mut rows = [0u32; 131072];
     let k = read_rows(&script[..n], &mut rows);
     let mut out = [0u8; 65536];

@@ -2,7 +2,8 @@
 // refused.
 use arith::both;
 use ranges::config_in_range;
-use script::field_count;
+use script::LONGEST;
+use script::fields_of;
 use script::step_refusal;
 use types::Config;
 use types::Step;
@@ -10,7 +11,7 @@ ghost use mathlib.Core.Path.{_≡_};
 ghost use Prim.Native.Nat.{_+_, _*_, _≤_};
 ghost use lib.ListN.{length};
 ghost use Rattle.rules.specs.Conditions.{unless};
-ghost use Rattle.script.specs.Layout.{recordsOf};
+ghost use Rattle.script.specs.Layout.{recordsOf, firstRecord};
 ghost use Rattle.script.specs.Reading.{orElse};
 ghost use Rattle.script.specs.Writing.{rowAt, stepsIn, stepsRefusal, writeRefusal};
 
@@ -54,7 +55,7 @@ pub fn records_length(l: &[u32]) -> usize
     let mut n = 0;
     while n < count {
         let s = row_at(l, n);
-        sum += (2 + 4 * field_count(s.kind)) as usize;
+        sum += (2 + 4 * fields_of(s.kind)) as usize;
         n += 1;
     }
     sum
@@ -76,12 +77,12 @@ fn or_else(n: u32, m: u32) -> u32
 
 // The first refusal in the writer's order: of the configuration, of the steps, of the length.
 pub fn write_refusal(c: Config, l: &[u32], size: usize, room: usize) -> u32
-    requires { ⌜ size ≡ 29 + length (recordsOf (stepsIn (now l))) ⌝ }
+    requires { ⌜ size ≡ firstRecord + length (recordsOf (stepsIn (now l))) ⌝ }
     ensures { λ n. ⌜ n ≡ writeRefusal c (stepsIn (now (l .entry))) room ⌝ }
 {
     let of_config = refusal_unless(config_in_range(c), 2);
     let of_steps = steps_refusal(l);
-    let of_length = refusal_unless(both(size <= 65536, size <= room), 1);
+    let of_length = refusal_unless(both(size <= LONGEST, size <= room), 1);
     let later = or_else(of_steps, of_length);
     or_else(of_config, later)
 }

@@ -22,7 +22,7 @@ use Rattle.rules.specs.Parts.{messageAt}
 use Rattle.rules.specs.Ranges.{isServer}
 use Rattle.rules.specs.Server.{noticed, cleaned, offerable, offered, onDiscover, granted, grantable, onRequest, onRenew, onWrite, matchesWrite, onWriteAck, handledAt, serverHandles, serverReceives}
 use Rattle.rules.specs.Client.{isHolding, discovers, requests, renews, asksWith, onOffer, expects, onAck, clientHandles}
-use Rattle.rules.specs.Steps.{Action, pass, fail, return, notice, discover, request, renew, deliver, lose, cleanup, unknown, action, delivered, deed, takes, takenOut, enacted, serverAfter, clientAfter, effect, broken, refusal, answerTo, step, malformed, barred}
+use Rattle.rules.specs.Steps.{Action, pass, fail, return, notice, discover, request, renew, deliver, lose, cleanup, unknown, actionOf, delivered, deedOf, takesOut, takenOut, enacted, serverAfter, clientAfter, effect, broken, refusal, answerTo, step, malformed, barred}
 use Rattle.types.specs.declared.Deed.{Deed}
 use Rattle.rules.proofs.Kept.{handled, takenIf, deliver-is}
 use Rattle.rules.proofs.Laws.{cond-case}
@@ -122,7 +122,7 @@ handled-high f m =
     (λ _. (omega arith, client-handles-high _ _ _ _))
 
 effect-high : (f : Facade) (x : Action) → Low (effect f x)
-unfolding effect deed takes takenOut enacted serverAfter clientAfter noticed cleaned
+unfolding effect deedOf takesOut takenOut enacted serverAfter clientAfter noticed cleaned
 effect-high f (pass d p e) = (omega arith, omega arith)
 effect-high f (fail k) = (omega arith, omega arith)
 effect-high f (return k) = (omega arith, omega arith)
@@ -138,7 +138,7 @@ effect-high f unknown = (omega arith, omega arith)
 step-high : (f : Facade) (s : Step) → Low (step f s)
 unfolding step answerTo
 step-high f s =
-    let x = action s in
+    let x = actionOf s in
     cond-case Low (eqb (refusal f x) 0) _ _ (λ _. effect-high f x) (λ _. (refusal-high f x, omega arith))
 
 pub step-refusal-high : (f : Facade) (s : Step) → (step f s) .refusal ≤ 13

@@ -21,7 +21,7 @@ use Rattle.rules.specs.Conditions.{_and_, filled}
 use Rattle.rules.specs.Parts.{noClient, inState, stateAt, offsetAt, clock, clientParty, message, withNext}
 use Rattle.rules.specs.Messages.{nothing}
 use Rattle.rules.specs.Client.{isOffered, isHolding, reply, broadcast, lapsed, discovers, requests, renews, asksWith, onOffer, expects, newEnd, onAck, clientHandles, clientReceives}
-use Rattle.rules.specs.Steps.{pass, discover, request, renew, stateAllows, exists, clientActs, moved, lapse, deed, takes, takenOut, enacted, clientAfter, nextAfter, effect, ended, lapsedAt}
+use Rattle.rules.specs.Steps.{pass, discover, request, renew, stateAllows, exists, clientActs, moved, lapse, deedOf, takesOut, takenOut, enacted, clientAfter, nextAfter, effect, holdsEnded, lapsedAt}
 use Rattle.rules.proofs.Laws.{Or, inl, inr, and-r, cond-case, set-any, length-filled, filled-at}
 use Rattle.rules.proofs.Cable.{Waits, Posted, ToServer, waits-sent, posted-nothing, posted-each}
 use Rattle.rules.proofs.Kept.{Configured, configured, Ranged, Kept}
@@ -103,7 +103,7 @@ module _ (f : Facade) (g : Ranged f) (v : Leased (world f)) where
       broadcast-leased i (Asking (f .next)) (f .next + 1) (f .next) Discover (becomes-unheld i (Asking (f .next)) tt) (λ from. tt) (λ to i′ a e c. absurd c) len room
 
   pub leased-discover : (i : ℕ) → length (f .messages) ≡ 128 → Kept f (discover i) → Leased (world ((effect f (discover i)) .facade))
-  unfolding effect deed takes takenOut enacted clientAfter nextAfter discovers stateAllows
+  unfolding effect deedOf takesOut takenOut enacted clientAfter nextAfter discovers stateAllows
   leased-discover i len w = discover-go i len (isHolding (stateAt f i)) (w .state) (w .room)
 
   -- only an offered client requests
@@ -118,7 +118,7 @@ module _ (f : Facade) (g : Ranged f) (v : Leased (world f)) where
   request-go i t len (Holding a e q) o room = absurd o
 
   pub leased-request : (i t : ℕ) → length (f .messages) ≡ 128 → Kept f (request i t) → Leased (world ((effect f (request i t)) .facade))
-  unfolding effect deed takes takenOut enacted clientAfter nextAfter stateAllows
+  unfolding effect deedOf takesOut takenOut enacted clientAfter nextAfter stateAllows
   leased-request i t len w = request-go i t len (stateAt f i) (w .state) (w .room)
 
   -- only a holding client renews, and its messages quote the end that it holds
@@ -140,7 +140,7 @@ module _ (f : Facade) (g : Ranged f) (v : Leased (world f)) where
       says to i′ a′ e′ c = let j : i ≡ i′ = omega (arith, c .0) in rw (← j, ← c .1, ← c .2) (holds q hi is)
 
   pub leased-renew : (i t : ℕ) → length (f .messages) ≡ 128 → Kept f (renew i t) → Leased (world ((effect f (renew i t)) .facade))
-  unfolding effect deed takes takenOut enacted clientAfter nextAfter stateAllows exists
+  unfolding effect deedOf takesOut takenOut enacted clientAfter nextAfter stateAllows exists
   leased-renew i t len w = renew-go i t (ltb→lt i _ (w .names)) len (stateAt f i) refl (w .state) (w .room)
 
   -- Pass: a hold that is left is as it was, and above the clock.
@@ -183,7 +183,7 @@ module _ (f : Facade) (g : Ranged f) (v : Leased (world f)) where
     old-promise out xs was sub i a e (sent m y c) = sent m (sub m y) c
 
     pub leased-pass : Leased (world ((effect f (pass d p z)) .facade))
-    unfolding effect deed takes takenOut enacted lapse lapsedAt ended later state-left
+    unfolding effect deedOf takesOut takenOut enacted lapse lapsedAt holdsEnded later state-left
     leased-pass = plain (world f) v (f .time + d) (set (f .offsets) p (offsetAt f p +ℤ z)) (filled state-left (f .config .clients) (f .clients)) (Waits f) (omega arith)
         (old-promise (Waits f) (filled state-left (f .config .clients) (f .clients)) (λ i a e q h y. left i a e q h y .0) (λ m y. y))
         (v .acks)

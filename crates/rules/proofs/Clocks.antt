@@ -5,19 +5,19 @@ use Prim.Native.Nat.{ℕ, suc, _+_, _-_, _≤_, _<_}
 use native.Mathlib.Omega.{arith}
 use lib.Dec.{T, ltb, ltb→lt, lt→ltb, nltb→le}
 use lib.IntN.{ℤ, pos, negsuc, natAbs, subℕ, _+ℤ_}
-use Rattle.rules.specs.Clock.{plus, notNegative}
+use Rattle.rules.specs.Clock.{clockReading, notNegative}
 
 -- a clock is within Δ of true time
-pub plus-low : (t Δ : ℕ) (o : ℤ) → natAbs o ≤ Δ → t ≤ plus t o + Δ
+pub plus-low : (t Δ : ℕ) (o : ℤ) → natAbs o ≤ Δ → t ≤ clockReading t o + Δ
 plus-low t Δ (pos n) h = omega arith
 plus-low t Δ (negsuc n) h = omega arith
 
-pub plus-high : (t Δ : ℕ) (o : ℤ) → natAbs o ≤ Δ → plus t o ≤ t + Δ
+pub plus-high : (t Δ : ℕ) (o : ℤ) → natAbs o ≤ Δ → clockReading t o ≤ t + Δ
 plus-high t Δ (pos n) h = omega arith
 plus-high t Δ (negsuc n) h = omega arith
 
 -- it goes on with true time
-pub plus-later : (t d : ℕ) (o : ℤ) → plus t o ≤ plus (t + d) o
+pub plus-later : (t d : ℕ) (o : ℤ) → clockReading t o ≤ clockReading (t + d) o
 plus-later t d (pos a) = omega arith
 plus-later t d (negsuc a) = omega arith
 
@@ -25,15 +25,15 @@ pub not-negative-later : (t d : ℕ) (o : ℤ) → T (notNegative t o) → T (no
 not-negative-later t d (pos a) h = tt
 not-negative-later t d (negsuc a) h = lt→ltb a (t + d) (omega (arith, ltb→lt a t h))
 
-plus-sub-go : (t a b : ℕ) (x : Bool) → (T x → a < b) → (T (not x) → b ≤ a) → plus t (cond x (negsuc (b - suc a)) (pos (a - b))) ≡ t + a - b
+plus-sub-go : (t a b : ℕ) (x : Bool) → (T x → a < b) → (T (not x) → b ≤ a) → clockReading t (cond x (negsuc (b - suc a)) (pos (a - b))) ≡ t + a - b
 plus-sub-go t a b true f g = let h : a < b = f tt in omega arith
 plus-sub-go t a b false f g = let h : b ≤ a = g tt in omega arith
 
-plus-sub : (t a b : ℕ) → plus t (subℕ a b) ≡ t + a - b
+plus-sub : (t a b : ℕ) → clockReading t (subℕ a b) ≡ t + a - b
 plus-sub t a b = plus-sub-go t a b (ltb a b) (ltb→lt a b) (nltb→le a b)
 
 -- and does not go back where d + e is not negative
-pub plus-mono : (t d : ℕ) (o e : ℤ) → T (notNegative d e) → plus t o ≤ plus (t + d) (o +ℤ e)
+pub plus-mono : (t d : ℕ) (o e : ℤ) → T (notNegative d e) → clockReading t o ≤ clockReading (t + d) (o +ℤ e)
 plus-mono t d (pos a) (pos b) h = omega arith
 plus-mono t d (negsuc a) (pos b) h = rw (plus-sub (t + d) b (suc a)) (omega arith)
 plus-mono t d (pos a) (negsuc b) h = rw (plus-sub (t + d) a (suc b)) (omega (arith, ltb→lt b d h))

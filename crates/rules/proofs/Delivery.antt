@@ -16,7 +16,7 @@ use Rattle.types.specs.declared.Facade.{Facade}
 use Rattle.rules.specs.Parts.{serverAt, messageAt, clientParty, parties, withMessages}
 use Rattle.rules.specs.Ranges.{isServer, isClient, bodyInRange, messageInRange}
 use Rattle.rules.specs.Messages.{sendAll, without}
-use Rattle.rules.specs.Steps.{Action, pass, fail, return, notice, discover, request, renew, deliver, lose, cleanup, unknown, exists, delivered, deed, takes, position, takenOut, enacted, serverAfter, noticesAfter, clientAfter, nextAfter, effect}
+use Rattle.rules.specs.Steps.{Action, pass, fail, return, notice, discover, request, renew, deliver, lose, cleanup, unknown, exists, delivered, deedOf, takesOut, position, takenOut, enacted, serverAfter, noticesAfter, clientAfter, nextAfter, effect}
 use Rattle.types.specs.declared.Deed.{Deed}
 use Rattle.rules.proofs.Laws.{Or, inl, inr, and-l, and-r, clash, cond-case}
 use Rattle.rules.proofs.Cable.{Among, Waits, Posted, waits-sent, length-removed, waits-removed}
@@ -78,7 +78,7 @@ module _ (f : Facade) (g : Ranged f) (four : length (f .servers) ≡ 4) (len : l
       (λ _. leased-handled (f .messages) (f .waiting) len (λ m x. x) (messageAt f p) here)
 
   pub leased-kept : ((k : ℕ) → k < f .config .servers → length ((serverAt f k) .leads) ≡ 32) → (x : Action) → Kept f x → Leased (world ((effect f x) .facade))
-  unfolding effect exists deed takes position takenOut enacted serverAfter noticesAfter clientAfter nextAfter
+  unfolding effect exists deedOf takesOut position takenOut enacted serverAfter noticesAfter clientAfter nextAfter
   leased-kept leads (pass d p e) w = leased-pass f g v d p e
   leased-kept leads (fail k) w = leased-fail f g four len v k w
   leased-kept leads (return k) w = leased-return f g four len v k w

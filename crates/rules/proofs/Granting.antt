@@ -23,7 +23,7 @@ use Rattle.types.specs.declared.Facade.{Facade}
 use Rattle.types.specs.declared.Outbox.{Outbox}
 use Rattle.types.specs.declared.ServerAnswer.{ServerAnswer}
 use Rattle.rules.specs.Conditions.{_and_, all, lowest}
-use Rattle.rules.specs.Parts.{noServer, noWrite, serverAt, clock, clientParty, message, leadsAt, lentAt, recordAt, writeAt, bindingAt, withReserved, withBinding, withReservation, withLease}
+use Rattle.rules.specs.Parts.{noServer, noWrite, serverAt, clock, clientParty, message, leadsAt, lentAt, potleaseAt, writeAt, bindingAt, withReserved, withBinding, withReservation, withLease}
 use Rattle.rules.specs.Ranges.{isClient, bodyInRange, messageInRange}
 use Rattle.rules.specs.Messages.{nothing}
 use Rattle.rules.specs.Server.{answer, bindingAnswer, atAddress, closed, opened, reservationsBy, expirySlack, hasPassed, offerable, offered, onDiscover, addressFor, addressOf, handledAt, isRequest, writtenEnd, ackEnd, granted, freedIfOf, dropped, grantable, onRequest, onRenew, onWrite, matchesWrite, acknowledged, onWriteAck, serverHandles, serverReceives}
@@ -69,7 +69,7 @@ module _ (f : Facade) (g : Ranged f) (four : length (f .servers) ≡ 4) (one : O
   -- What is kept for address a replaced by b, which leads as before and records no less.
 
   module _ (a : ℕ) (ha : a < f .config .addresses) (rs : List Reservation) (b : Binding) (leads : b .leads ≡ leadsAt (serverAt f k) a)
-      (more : recordAt (serverAt f k) a ≤ b .potlease) where
+      (more : potleaseAt (serverAt f k) a ≤ b .potlease) where
     lender : Server
     lender = withBinding (withReserved (serverAt f k) rs) a b
 
@@ -80,9 +80,9 @@ module _ (f : Facade) (g : Ranged f) (four : length (f .servers) ≡ 4) (one : O
     lender-led : (a′ : ℕ) → T (leadsAt lender a′) → T (leadsAt (serverAt f k) a′)
     lender-led a′ t = rw lender-leads at t
 
-    lender-up : (a′ : ℕ) → recordAt (serverAt f k) a′ ≤ recordAt lender a′
+    lender-up : (a′ : ℕ) → potleaseAt (serverAt f k) a′ ≤ potleaseAt lender a′
     unfolding lender
-    lender-up a′ = set-any (λ x. recordAt (serverAt f k) a′ ≤ x) ((serverAt f k) .potlease) a (b .potlease) 0 a′ (λ q. rw q more) (le-refl _)
+    lender-up a′ = set-any (λ x. potleaseAt (serverAt f k) a′ ≤ x) ((serverAt f k) .potlease) a (b .potlease) 0 a′ (λ q. rw q more) (le-refl _)
 
     lender-raised : Raised (world f) k lender
     unfolding lender
@@ -96,7 +96,7 @@ module _ (f : Facade) (g : Ranged f) (four : length (f .servers) ≡ 4) (one : O
     lender-grows : Grows (world f) (servedBy (world f) k lender out)
     lender-grows = served-grows (world f) v k lender out lender-raised
 
-    lender-record : recordAt (getD (set (f .servers) k lender) k noServer) a ≡ b .potlease
+    lender-record : potleaseAt (getD (set (f .servers) k lender) k noServer) a ≡ b .potlease
     unfolding lender
     lender-record =
         rw (getD-set-same (f .servers) k lender noServer place) (getD-set-same ((serverAt f k) .potlease) a (b .potlease) 0 (omega (arith, v .rows k hk, ok .addresses-high)))
@@ -141,10 +141,10 @@ module _ (f : Facade) (g : Ranged f) (four : length (f .servers) ≡ 4) (one : O
   -- A grant to party p: k leads a, the lent end l is covered, and every promise of a to another client is over.
 
   module _ (al : T ((serverAt f k) .alive)) (rs : List Reservation) (p q a t l : ℕ) (ha : a < f .config .addresses) (lead : T (leadsAt (serverAt f k) a))
-      (fits : (j : ℕ) → j < f .config .servers → l ≤ max (recordAt (serverAt f j) a) (f .time + f .config .skew + f .config .mclt))
+      (fits : (j : ℕ) → j < f .config .servers → l ≤ max (potleaseAt (serverAt f j) a) (f .time + f .config .skew + f .config .mclt))
       (over : (i e : ℕ) → Claim (world f) i a e → p ≢ clientParty (f .config) i → e + f .config .skew < f .time) where
     new-record : ℕ
-    new-record = max (recordAt (serverAt f k) a) (writtenEnd t l)
+    new-record = max (potleaseAt (serverAt f k) a) (writtenEnd t l)
 
     new-write : OpenWrite
     new-write = opened q (writtenEnd t l) (set (replicate 4 false) k true)
@@ -156,7 +156,7 @@ module _ (f : Facade) (g : Ranged f) (four : length (f .servers) ≡ 4) (one : O
     unfolding new-binding
     leads = refl
 
-    more : recordAt (serverAt f k) a ≤ new-binding .potlease
+    more : potleaseAt (serverAt f k) a ≤ new-binding .potlease
     unfolding new-binding new-record
     more = omega arith
 
@@ -170,14 +170,14 @@ module _ (f : Facade) (g : Ranged f) (four : length (f .servers) ≡ 4) (one : O
     unfolding after grantor
     grows = lender-grows a ha rs new-binding leads more
 
-    grant-record : recordAt (srv after k) a ≡ new-record
+    grant-record : potleaseAt (srv after k) a ≡ new-record
     unfolding after grantor new-binding
     grant-record = lender-record a ha rs new-binding leads more
 
     grant-cov : Cov after a l
     unfolding after grantor new-binding new-record lender
     grant-cov = record {
-      led = λ j hj. set-case (λ x. T (x .alive) → T (leadsAt x a) → l ≤ recordAt x a) (f .servers) k grantor noServer j place
+      led = λ j hj. set-case (λ x. T (x .alive) → T (leadsAt x a) → l ≤ potleaseAt x a) (f .servers) k grantor noServer j place
           (λ e al le. omega (arith, getD-set-same ((serverAt f k) .potlease) a new-record 0 (omega (arith, v .rows k hk, ok .addresses-high))))
           (λ ne al′ le. absurd (ne (one j k a hj hk ha al′ al le lead)));
       every = λ j hj. omega (arith, fits j hj, grows .records j a);
@@ -185,9 +185,9 @@ module _ (f : Facade) (g : Ranged f) (four : length (f .servers) ≡ 4) (one : O
 
     grant-open : OpenOk after a new-write
     unfolding new-write
-    grant-open = λ j hj. set-any (λ x. T x → writtenEnd t l ≤ recordAt (srv after j) a) (replicate 4 false) k true false j
+    grant-open = λ j hj. set-any (λ x. T x → writtenEnd t l ≤ potleaseAt (srv after j) a) (replicate 4 false) k true false j
         (λ e _. rw e (unfold new-record in omega (arith, grant-record)))
-        (rep-ind (λ x. T x → writtenEnd t l ≤ recordAt (srv after j) a) 4 false false j (λ x. absurd x) (λ x. absurd x))
+        (rep-ind (λ x. T x → writtenEnd t l ≤ potleaseAt (srv after j) a) 4 false false j (λ x. absurd x) (λ x. absurd x))
 
     Granted : Message → Type 0
     Granted m = Or (message k p q (Ack a (ackEnd t l)) ≡ m) (ToServer (λ j. message k j q (Write a (writtenEnd t l))) (f .config .servers) m)
@@ -247,8 +247,8 @@ module _ (f : Facade) (g : Ranged f) (four : length (f .servers) ≡ 4) (one : O
   unfolding onRequest dropped grantable
   keeps-request al p q a t ha =
       let rs : List Reservation = reservationsBy (freedIfOf q) (f .config .addresses) ((serverAt f k) .reserved) in
-      cond-case (λ x. Keeps (atAddress (dropped (f .config) q (serverAt f k)) a x)) (leadsAt (serverAt f k) a and hasPassed (f .config) (clock f k) (recordAt (serverAt f k) a)) _ _
-      (λ y. let past : recordAt (serverAt f k) a + expirySlack (f .config) < clock f k = ltb→lt _ _ (and-r (leadsAt (serverAt f k) a) _ y) in
+      cond-case (λ x. Keeps (atAddress (dropped (f .config) q (serverAt f k)) a x)) (leadsAt (serverAt f k) a and hasPassed (f .config) (clock f k) (potleaseAt (serverAt f k) a)) _ _
+      (λ y. let past : potleaseAt (serverAt f k) a + expirySlack (f .config) < clock f k = ltb→lt _ _ (and-r (leadsAt (serverAt f k) a) _ y) in
       keeps-grant al rs p q a t (clock f k + f .config .mclt) ha (and-l _ _ y)
       (λ j hj. omega (arith, high))
       (λ i e c _. omega (arith, high, (v .claims i a e ha c) .led k hk al (and-l _ _ y))))
@@ -270,8 +270,8 @@ module _ (f : Facade) (g : Ranged f) (four : length (f .servers) ≡ 4) (one : O
   pub keeps-write : (p q a e : ℕ) → a < f .config .addresses → Keeps (atAddress (serverAt f k) a (onWrite k (bindingAt (serverAt f k) a) p q a e))
   unfolding onWrite lender
   keeps-write p q a e ha =
-      let b : Binding = withLease (bindingAt (serverAt f k) a) (lentAt (serverAt f k) a) (max (recordAt (serverAt f k) a) e) (writeAt (serverAt f k) a) in
-      let more : recordAt (serverAt f k) a ≤ b .potlease = omega arith in
+      let b : Binding = withLease (bindingAt (serverAt f k) a) (lentAt (serverAt f k) a) (max (potleaseAt (serverAt f k) a) e) (writeAt (serverAt f k) a) in
+      let more : potleaseAt (serverAt f k) a ≤ b .potlease = omega arith in
       unpromised a ha ((serverAt f k) .reserved) b refl more 0 _ (v .lents k a hk ha) (v .opens k a hk ha)
       (λ m x. rw (← posted-one (message k p q (WriteAck a e)) m x) (omega (arith, lender-record a ha ((serverAt f k) .reserved) b refl more), λ i a e c. c))
 
@@ -279,24 +279,24 @@ module _ (f : Facade) (g : Ranged f) (four : length (f .servers) ≡ 4) (one : O
 
   -- the open write that an ack answers counts only servers whose record has its end
   counted : (q e a : ℕ) (acked : List Bool) (o : Pending) → T (matchesWrite q e o) → CountOk (world f) a acked o
-      → (j : ℕ) → j < f .config .servers → T (getD acked j false) → e ≤ recordAt (serverAt f j) a
+      → (j : ℕ) → j < f .config .servers → T (getD acked j false) → e ≤ potleaseAt (serverAt f j) a
   unfolding matchesWrite
   counted q e a acked Closed t c j hj x = absurd t
   counted q e a acked (Open q′ e′) t c j hj x = let z = and-r _ _ t in omega (arith, c j hj x, eqb→eq)
 
-  module _ (p q a e : ℕ) (ha : a < f .config .addresses) (from : e ≤ recordAt (serverAt f p) a) where
+  module _ (p q a e : ℕ) (ha : a < f .config .addresses) (from : e ≤ potleaseAt (serverAt f p) a) where
     acked-now : List Bool
     acked-now = set ((writeAt (serverAt f k) a) .acked) p true
 
-    counted-now : T (matchesWrite q e ((writeAt (serverAt f k) a) .pending)) → (j : ℕ) → j < f .config .servers → T (getD acked-now j false) → e ≤ recordAt (serverAt f j) a
+    counted-now : T (matchesWrite q e ((writeAt (serverAt f k) a) .pending)) → (j : ℕ) → j < f .config .servers → T (getD acked-now j false) → e ≤ potleaseAt (serverAt f j) a
     unfolding acked-now
     counted-now t j hj =
-        set-any (λ x. T x → e ≤ recordAt (serverAt f j) a) ((writeAt (serverAt f k) a) .acked) p true false j
+        set-any (λ x. T x → e ≤ potleaseAt (serverAt f j) a) ((writeAt (serverAt f k) a) .acked) p true false j
         (λ is _. rw is from)
         (counted q e a ((writeAt (serverAt f k) a) .acked) ((writeAt (serverAt f k) a) .pending) t (v .opens k a hk ha) j hj)
 
     -- every record has it, so it is covered with the lent end
-    all-have : ((j : ℕ) → j < f .config .servers → e ≤ recordAt (serverAt f j) a) → Cov (world f) a (max (lentAt (serverAt f k) a) e)
+    all-have : ((j : ℕ) → j < f .config .servers → e ≤ potleaseAt (serverAt f j) a) → Cov (world f) a (max (lentAt (serverAt f k) a) e)
     all-have every = record {
       led = λ j hj al le. omega (arith, (v .lents k a hk ha) .led j hj al le, every j hj);
       every = λ j hj. omega (arith, (v .lents k a hk ha) .every j hj, every j hj);
@@ -304,9 +304,9 @@ module _ (f : Facade) (g : Ranged f) (four : length (f .servers) ≡ 4) (one : O
 
     -- another lent end and open write for a, the record as it was
     rewritten : (l : ℕ) (o : OpenWrite) → Cov (world f) a l → OpenOk (world f) a o
-        → Keeps (atAddress (serverAt f k) a (bindingAnswer (withLease (bindingAt (serverAt f k) a) l (recordAt (serverAt f k) a) o) 0 nothing))
+        → Keeps (atAddress (serverAt f k) a (bindingAnswer (withLease (bindingAt (serverAt f k) a) l (potleaseAt (serverAt f k) a) o) 0 nothing))
     unfolding lender
-    rewritten l o cov opn = unpromised a ha ((serverAt f k) .reserved) (withLease (bindingAt (serverAt f k) a) l (recordAt (serverAt f k) a) o) refl (le-refl _) 0 nothing cov opn
+    rewritten l o cov opn = unpromised a ha ((serverAt f k) .reserved) (withLease (bindingAt (serverAt f k) a) l (potleaseAt (serverAt f k) a) o) refl (le-refl _) 0 nothing cov opn
         (λ m y. posted-nothing m y)
 
     pub keeps-write-ack : Keeps (atAddress (serverAt f k) a (onWriteAck (f .config) (bindingAt (serverAt f k) a) p q e))

@@ -12,12 +12,12 @@ use Rattle.types.specs.declared.Message.{Message}
 use Rattle.types.specs.declared.Facade.{Facade}
 use Rattle.types.specs.declared.Step.{Step}
 use Rattle.types.specs.declared.Answer.{Answer}
-use Rattle.rules.specs.Parts.{noWrite, noClient, serverAt, stateAt, messageAt, clientParty, leadsAt, lentAt, recordAt, writeAt}
+use Rattle.rules.specs.Parts.{noWrite, noClient, serverAt, stateAt, messageAt, clientParty, leadsAt, lentAt, potleaseAt, writeAt}
 use Rattle.rules.specs.Ranges.{configInRange, stateInRange, inRange, isServer}
 use Rattle.rules.specs.Order.{rank}
 use Rattle.rules.specs.Messages.{without}
 use Rattle.rules.specs.Server.{closed}
-use Rattle.rules.specs.Steps.{Action, pass, fail, return, notice, discover, request, renew, deliver, lose, cleanup, unknown, fresh, action, lapse, delivered, deed, takes, takenOut, enacted, effect, refusal, answerTo, step, run, ended, lapsedAt}
+use Rattle.rules.specs.Steps.{Action, pass, fail, return, notice, discover, request, renew, deliver, lose, cleanup, unknown, fresh, actionOf, lapse, delivered, deedOf, takesOut, takenOut, enacted, effect, refusal, answerTo, step, run, holdsEnded, lapsedAt}
 use Rattle.rules.proofs.Laws.{and-l, cond-case, rep-ind}
 use Rattle.types.specs.declared.Deed.{Deed}
 use Rattle.rules.proofs.Kept.{handled, takenIf, deliver-is, of-fresh, Configured, configured, Ranged, ranged, Kept, kept}
@@ -40,7 +40,7 @@ unfolding delivered enacted
 config-handled f m = cond-case (λ (d : Deed). (enacted f d .facade) .config ≡ f .config) (isServer (f .config) (m .receiver)) _ _ (λ _. refl) (λ _. refl)
 
 config-effect : (f : Facade) (x : Action) → ((effect f x) .facade) .config ≡ f .config
-unfolding effect deed takes takenOut enacted lapse lapsedAt ended
+unfolding effect deedOf takesOut takenOut enacted lapse lapsedAt holdsEnded
 config-effect f (pass d p e) = refl
 config-effect f (fail k) = refl
 config-effect f (return k) = refl
@@ -56,7 +56,7 @@ config-effect f unknown = refl
 
 config-step : (f : Facade) (s : Step) → ((step f s) .facade) .config ≡ f .config
 unfolding step answerTo
-config-step f s = cond-case (λ (y : Answer). (y .facade) .config ≡ f .config) (eqb (refusal f (action s)) 0) _ _ (λ _. config-effect f (action s)) (λ _. refl)
+config-step f s = cond-case (λ (y : Answer). (y .facade) .config ≡ f .config) (eqb (refusal f (actionOf s)) 0) _ _ (λ _. config-effect f (actionOf s)) (λ _. refl)
 
 config-run : (f : Facade) (ss : List Step) → (run f ss) .config ≡ f .config
 unfolding run
@@ -101,7 +101,7 @@ module _ (f : Facade) (v : Invariant f) where
           ))
 
   pub recorded : (i k a e q : ℕ) → i < f .config .clients → k < f .config .servers → stateAt f i ≡ Holding a e q
-      → T ((serverAt f k) .alive) → T (leadsAt (serverAt f k) a) → e ≤ recordAt (serverAt f k) a
+      → T ((serverAt f k) .alive) → T (leadsAt (serverAt f k) a) → e ≤ potleaseAt (serverAt f k) a
   recorded i k a e q hi hk h al le = (v .leased .claims i a e (held-exists i a e q hi h) (holds q hi h)) .led k hk al le
 
   -- It is kept by every step.
@@ -118,7 +118,7 @@ module _ (f : Facade) (v : Invariant f) where
 
   pub kept-step : (s : Step) → Invariant ((step f s) .facade)
   unfolding step answerTo
-  kept-step s = cond-case (λ (y : Answer). Invariant (y .facade)) (eqb (refusal f (action s)) 0) _ _ (λ t. kept-effect (action s) (eqb→eq _ _ t)) (λ _. v)
+  kept-step s = cond-case (λ (y : Answer). Invariant (y .facade)) (eqb (refusal f (actionOf s)) 0) _ _ (λ t. kept-effect (actionOf s) (eqb→eq _ _ t)) (λ _. v)
 
 kept-run : (f : Facade) (ss : List Step) → Invariant f → Invariant (run f ss)
 unfolding run

@@ -15,7 +15,7 @@ use Rattle.types.specs.declared.Body.{Body}
 use Rattle.types.specs.declared.Body.the-variants.{Empty, Discover, Offer, Request, Renew, Write, WriteAck, Ack}
 use Rattle.types.specs.declared.Message.{Message}
 use Rattle.types.specs.declared.Facade.{Facade}
-use Rattle.rules.specs.Conditions.{within, all}
+use Rattle.rules.specs.Conditions.{isWithin, all}
 use Rattle.rules.specs.Parts.{noServer, parties, serverAt, stateAt, messageAt, offsetAt, noticeAt}
 use Rattle.types.specs.declared.Answer.{Answer}
 use Rattle.types.specs.declared.Config.{Config}
@@ -23,7 +23,7 @@ use Rattle.rules.specs.Messages.{withoutIf}
 use Rattle.rules.specs.Views.{whole}
 use Rattle.rules.specs.Ranges.{configInRange, offsetInRange, serverInRange, noticeInRange, stateInRange, bodyInRange, messageInRange, inRange, lastTime, lastInteraction, mostWaiting}
 use Rattle.rules.specs.Server.{lowestOfferable, addressFor}
-use Rattle.rules.specs.Steps.{freshServer, Action, deliver, delivered, deed, takes, position, takenOut, enacted, isKnown, fieldsInRange, exists, stateAllows, ofPass, timeLeft, clockAllows, inTouch, ofNotice, isCredible, interactionLeft, effect, broken, refusal, malformed, barred}
+use Rattle.rules.specs.Steps.{freshServer, Action, deliver, delivered, deedOf, takesOut, position, takenOut, enacted, isKnown, fieldsInRange, exists, stateAllows, ofPass, timeLeft, clockAllows, inTouch, ofNotice, isCredible, interactionLeft, effect, broken, refusal, malformed, barred}
 use Rattle.rules.proofs.Laws.{and-l, and-r, and-both, or-elim, or-l, or-r, within-low, within-high, unless-ok, all-at, all-by}
 use Rattle.rules.proofs.Cable.{Waits}
 
@@ -37,11 +37,11 @@ pub record Configured (c : Config) : Type 0 where
   pub addresses-low : 1 ≤ c .addresses
   pub addresses-high : c .addresses ≤ 32
   pub skew-high : c .skew ≤ 1000
-  pub silence-low : 1 ≤ c .silence
-  pub silence-high : c .silence ≤ 10000
+  pub detection-low : 1 ≤ c .detection
+  pub detection-high : c .detection ≤ 10000
   pub mclt-low : 1 ≤ c .mclt
   pub mclt-high : c .mclt ≤ 1000000
-  pub hold-high : c .hold ≤ 1000000
+  pub retention-high : c .retention ≤ 1000000
 
 pub configured : (c : Config) → T (configInRange c) → Configured c
 unfolding configInRange
@@ -55,11 +55,11 @@ configured c t =
       addresses-low = within-low _ _ _ (and-l _ _ t₃);
       addresses-high = within-high _ _ _ (and-l _ _ t₃);
       skew-high = leb→le _ _ (and-l _ _ t₄);
-      silence-low = within-low _ _ _ (and-l _ _ t₅);
-      silence-high = within-high _ _ _ (and-l _ _ t₅);
+      detection-low = within-low _ _ _ (and-l _ _ t₅);
+      detection-high = within-high _ _ _ (and-l _ _ t₅);
       mclt-low = within-low _ _ _ (and-l _ _ t₆);
       mclt-high = within-high _ _ _ (and-l _ _ t₆);
-      hold-high = leb→le _ _ (and-r _ _ t₆);
+      retention-high = leb→le _ _ (and-r _ _ t₆);
     }
 
 -- what holds of a fresh server holds of each server of a fresh facade
@@ -108,7 +108,7 @@ ranged f t =
     }
 
 pub in-range : (f : Facade) → Ranged f → T (inRange f)
-unfolding inRange within
+unfolding inRange isWithin
 in-range f v =
     and-both (configInRange (f .config)) _ (v .config)
     (and-both (leb (f .time) lastTime) _ (le→leb (f .time) lastTime (v .time))
@@ -149,7 +149,7 @@ abbrev pub takenIf : Facade → ℕ → ℕ → Facade
 takenIf f p keep = withoutIf f p (eqb keep 0)
 
 pub deliver-is : (f : Facade) (p keep : ℕ) → effect f (deliver p keep) ≡ handled (takenIf f p keep) (messageAt f p)
-unfolding effect deed takes position takenOut
+unfolding effect deedOf takesOut position takenOut
 deliver-is f p keep = go (eqb keep 0) where
   go : (b : Bool) → enacted (withoutIf f p b) (delivered (f .config) (messageAt f p)) ≡ handled (withoutIf f p b) (messageAt f p)
   go true = refl

@@ -11,7 +11,7 @@ use native.Mathlib.Decide.{ℕ-discrete, decLt}
 use lib.Dec.{T, eqb, leb→le, eqb-refl}
 use lib.ListN.{length, getD, set, replicate, length-set}
 use lib.Seq.{getD-set-same, getD-set-other, set-out}
-use Rattle.rules.specs.Conditions.{_and_, _or_, within, unless, all, counted, lowest, filled}
+use Rattle.rules.specs.Conditions.{_and_, _or_, isWithin, unless, all, counted, lowest, filled}
 
 pub data Or (A B : Type 0) : Type 0 where
   inl : A → Or A B
@@ -65,12 +65,12 @@ pub cond-case : {A : Type 0} (P : A → Type 0) (b : Bool) (x y : A) → (T b �
 cond-case P true x y p q = p tt
 cond-case P false x y p q = q tt
 
-pub within-low : (low high x : ℕ) → T (within low high x) → low ≤ x
-unfolding within
+pub within-low : (low high x : ℕ) → T (isWithin low high x) → low ≤ x
+unfolding isWithin
 within-low low high x t = leb→le low x (and-l _ _ t)
 
-pub within-high : (low high x : ℕ) → T (within low high x) → x ≤ high
-unfolding within
+pub within-high : (low high x : ℕ) → T (isWithin low high x) → x ≤ high
+unfolding isWithin
 within-high low high x t = leb→le x high (and-r _ _ t)
 
 -- a chain of rules that gives 0 has kept the first and gives 0 below it

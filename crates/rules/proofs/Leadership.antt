@@ -21,13 +21,13 @@ use Rattle.types.specs.declared.Facade.{Facade}
 use Rattle.types.specs.declared.ServerAnswer.{ServerAnswer}
 use Rattle.types.specs.declared.BindingAnswer.{BindingAnswer}
 use Rattle.rules.specs.Conditions.{_and_, all}
-use Rattle.rules.specs.Clock.{plus}
+use Rattle.rules.specs.Clock.{clockReading}
 use Rattle.rules.specs.Parts.{noServer, believes, leadsAt, serverAt, messageAt, offsetAt, clock, noticeAt, parties, writeAt, bindingAt, withLife, withLeading, withMessages}
 use Rattle.rules.specs.Ranges.{offsetInRange, isServer}
 use Rattle.rules.specs.Messages.{removed, without}
 use Rattle.rules.specs.Order.{rank, isFirst}
 use Rattle.rules.specs.Server.{atAddress, leadDelay, leadsAfter, leadingWith, noticed, afterReturn, cleaned, offerable, offered, onDiscover, granted, dropped, grantable, onRequest, onRenew, onWrite, matchesWrite, acknowledged, onWriteAck, handledAt, isRequest, readied, addressOf, serverHandles, serverReceives}
-use Rattle.rules.specs.Steps.{Action, pass, fail, return, notice, discover, request, renew, deliver, lose, cleanup, unknown, fresh, exists, ofPass, clockAllows, inTouch, ofNotice, isCredible, rowNow, lapse, delivered, deed, takes, takenOut, enacted, serverAfter, noticesAfter, clientAfter, nextAfter, effect, ended, lapsedAt}
+use Rattle.rules.specs.Steps.{Action, pass, fail, return, notice, discover, request, renew, deliver, lose, cleanup, unknown, fresh, exists, ofPass, clockAllows, inTouch, ofNotice, isCredible, rowNow, lapse, delivered, deedOf, takesOut, takenOut, enacted, serverAfter, noticesAfter, clientAfter, nextAfter, effect, holdsEnded, lapsedAt}
 use Rattle.types.specs.declared.Deed.{Deed}
 use Rattle.rules.proofs.Laws.{and-l, and-r, or-elim, clash, not-eqb, cond-case, all-at, set-case, set-any, rep-ind, rep-true, rep-false, length-filled, filled-at}
 use Rattle.rules.proofs.Clocks.{plus-low, plus-high, plus-later, plus-mono}
@@ -98,9 +98,9 @@ pub record LedBy (order : ℕ → ℕ → ℕ) (c : Config) (t : ℕ) (os : List
   pub notices : length ts ≡ 16
   pub believed : (k : ℕ) → k < c .servers → length ((core k) .believed) ≡ 4
   pub leads : (k : ℕ) → k < c .servers → length ((core k) .leads) ≡ 32
-  pub l1 : (k j : ℕ) → k < c .servers → j < c .servers → j ≢ k → L1 (c .silence) (getD ts (k * 4 + j) 0) j (core k) (core j)
-  pub l2 : (k j : ℕ) → k < c .servers → j < c .servers → j ≢ k → L2 (c .silence) t (getD ts (k * 4 + j) 0) (core k)
-  pub l3 : (j a : ℕ) → j < c .servers → a < c .addresses → L3 (leadDelay c) (plus t (getD os j (pos 0))) a (core j)
+  pub l1 : (k j : ℕ) → k < c .servers → j < c .servers → j ≢ k → L1 (c .detection) (getD ts (k * 4 + j) 0) j (core k) (core j)
+  pub l2 : (k j : ℕ) → k < c .servers → j < c .servers → j ≢ k → L2 (c .detection) t (getD ts (k * 4 + j) 0) (core k)
+  pub l3 : (j a : ℕ) → j < c .servers → a < c .addresses → L3 (leadDelay c) (clockReading t (getD os j (pos 0))) a (core j)
   pub l4 : (j : ℕ) → j < c .servers → L4 (c .skew) (core j)
   pub l5 : (k j a : ℕ) → k < c .servers → j < c .servers → a < c .addresses → L5 order k j a (core k)
 
@@ -213,9 +213,9 @@ module _ (order : ℕ → ℕ → ℕ) (f : Facade) (g : Ranged f) (v : Led orde
     leads : length (s .leads) ≡ 32
     notices : length ts ≡ 16
     others : (k j : ℕ) → k ≢ i → j < f .config .servers → getD ts (k * 4 + j) 0 ≡ noticeAt f k j
-    l1-own : (j : ℕ) → j < f .config .servers → j ≢ i → L1 (f .config .silence) (getD ts (i * 4 + j) 0) j (coreOf s) (coreOf (serverAt f j))
-    l1-about : (k : ℕ) → k < f .config .servers → k ≢ i → L1 (f .config .silence) (noticeAt f k i) i (coreOf (serverAt f k)) (coreOf s)
-    l2-own : (j : ℕ) → j < f .config .servers → j ≢ i → L2 (f .config .silence) (f .time) (getD ts (i * 4 + j) 0) (coreOf s)
+    l1-own : (j : ℕ) → j < f .config .servers → j ≢ i → L1 (f .config .detection) (getD ts (i * 4 + j) 0) j (coreOf s) (coreOf (serverAt f j))
+    l1-about : (k : ℕ) → k < f .config .servers → k ≢ i → L1 (f .config .detection) (noticeAt f k i) i (coreOf (serverAt f k)) (coreOf s)
+    l2-own : (j : ℕ) → j < f .config .servers → j ≢ i → L2 (f .config .detection) (f .time) (getD ts (i * 4 + j) 0) (coreOf s)
     l3-own : (a : ℕ) → a < f .config .addresses → L3 (leadDelay (f .config)) (clock f i) a (coreOf s)
     l4-own : L4 (f .config .skew) (coreOf s)
     l5-own : (j a : ℕ) → j < f .config .servers → a < f .config .addresses → L5 order i j a (coreOf s)
@@ -229,11 +229,11 @@ module _ (order : ℕ → ℕ → ℕ) (f : Facade) (g : Ranged f) (v : Led orde
         notices = w .notices;
         believed = λ k hk. on-one f i s p (λ x. length (x .believed) ≡ 4) k (λ _. w .believed) (λ _. v .believed k hk);
         leads = λ k hk. on-one f i s p (λ x. length (x .leads) ≡ 32) k (λ _. w .leads) (λ _. v .leads k hk);
-        l1 = λ k j hk hj ne. on-two f i s p (L1 (f .config .silence) (getD ts (k * 4 + j) 0) j) k j ne
+        l1 = λ k j hk hj ne. on-two f i s p (L1 (f .config .detection) (getD ts (k * 4 + j) 0) j) k j ne
             (λ e. rw e (w .l1-own j hj (rw e at ne)))
             (λ e. let nk : k ≢ i = λ e′. ne (cc) in rw (w .others k j nk hj, e) (w .l1-about k hk nk))
             (λ nk _. rw (w .others k j nk hj) (v .l1 k j hk hj ne));
-        l2 = λ k j hk hj ne. on-one f i s p (L2 (f .config .silence) (f .time) (getD ts (k * 4 + j) 0)) k
+        l2 = λ k j hk hj ne. on-one f i s p (L2 (f .config .detection) (f .time) (getD ts (k * 4 + j) 0)) k
             (λ e. rw e (w .l2-own j hj (rw e at ne)))
             (λ nk. rw (w .others k j nk hj) (v .l2 k j hk hj ne));
         l3 = λ j a hj ha. on-one f i s p (L3 (leadDelay (f .config)) (clock f j) a) j (λ e. rw e (w .l3-own a ha)) (λ _. v .l3 j a hj ha);
@@ -243,7 +243,7 @@ module _ (order : ℕ → ℕ → ℕ) (f : Facade) (g : Ranged f) (v : Led orde
 
   -- fail: a dead server leads nothing and believes nothing
   pub led-fail : (i : ℕ) → Kept f (fail i) → Led order ((effect f (fail i)) .facade)
-  unfolding effect deed takes takenOut enacted serverAfter noticesAfter exists
+  unfolding effect deedOf takesOut takenOut enacted serverAfter noticesAfter exists
   led-fail i w =
       let h : i < f .config .servers = ltb→lt i _ (w .names) in
       replaced i (withLife (serverAt f i) false (f .time)) (f .notices) (record {
@@ -289,7 +289,7 @@ module _ (order : ℕ → ℕ → ℕ) (f : Facade) (g : Ranged f) (v : Led orde
       )
 
   pub led-return : (i : ℕ) → Kept f (return i) → Led order ((effect f (return i)) .facade)
-  unfolding effect deed takes takenOut enacted serverAfter noticesAfter exists afterReturn
+  unfolding effect deedOf takesOut takenOut enacted serverAfter noticesAfter exists afterReturn
   led-return i w =
       let h : i < f .config .servers = ltb→lt i _ (w .names) in
       let own : (j : ℕ) → j < f .config .servers → getD (rowNow (f .notices) i (f .time)) (i * 4 + j) 0 ≡ f .time =
@@ -301,7 +301,7 @@ module _ (order : ℕ → ℕ → ℕ) (f : Facade) (g : Ranged f) (v : Led orde
         notices = row-length (f .notices) i (f .time) ∙ v .notices;
         others = λ k j ne hj. row-other (f .notices) i k j (f .time) (omega (arith, ok .servers-high)) ne;
         l1-own = λ j hj _ _ _ nb. clash (believes (replicate 4 true) j) (rep-true 4 j (omega (arith, ok .servers-high))) nb;
-        l1-about = λ k hk ne _ _ _. omega (arith, g .notice k i hk h (λ e. ne (sym e)), ok .silence-low);
+        l1-about = λ k hk ne _ _ _. omega (arith, g .notice k i hk h (λ e. ne (sym e)), ok .detection-low);
         l2-own = λ j hj _ _. omega (arith, own j hj);
         l3-own = λ a _ _ t. absurd (rep-false 32 a t);
         l4-own = λ _. clock-low f g i (omega arith);
@@ -333,7 +333,7 @@ module _ (order : ℕ → ℕ → ℕ) (f : Facade) (g : Ranged f) (v : Led orde
     said-dead false true n y t = y
     said-dead false false n y t = t
 
-    dead-soon : T ((serverAt f j) .alive) → T (not (eqb says 1)) → f .time < (serverAt f j) .changed + f .config .silence
+    dead-soon : T ((serverAt f j) .alive) → T (not (eqb says 1)) → f .time < (serverAt f j) .changed + f .config .detection
     unfolding ofNotice isCredible
     dead-soon al n =
         or-elim (cond (eqb says 1) ((serverAt f j) .alive) (not ((serverAt f j) .alive))) _ (w .timely)
@@ -349,15 +349,15 @@ module _ (order : ℕ → ℕ → ℕ) (f : Facade) (g : Ranged f) (v : Led orde
     time-else k′ j′ ne = getD-set-other (f .notices) (k * 4 + j) (k′ * 4 + j′) (f .time) 0 ne
 
     own-l1 : (j′ : ℕ) → j′ < f .config .servers → j′ ≢ k → T ((serverAt f k) .alive) → T ((serverAt f j′) .alive) → T (not (believes set-now j′))
-        → getD times-now (k * 4 + j′) 0 < (serverAt f j′) .changed + f .config .silence
+        → getD times-now (k * 4 + j′) 0 < (serverAt f j′) .changed + f .config .detection
     unfolding set-now
     own-l1 j′ h ne ak aj =
-        set-case (λ x. T (not x) → getD times-now (k * 4 + j′) 0 < (serverAt f j′) .changed + f .config .silence) ((serverAt f k) .believed) j (eqb says 1) false j′
+        set-case (λ x. T (not x) → getD times-now (k * 4 + j′) 0 < (serverAt f j′) .changed + f .config .detection) ((serverAt f k) .believed) j (eqb says 1) false j′
         (omega (arith, v .believed k hk, hj, ok .servers-high))
         (λ e n. rw e (omega (arith, time-about, dead-soon (rw e at aj) n)))
         (λ ne′ n. omega (arith, time-else k j′ (λ e. ne′ (omega arith)), v .l1 k j′ hk h ne ak aj n))
 
-    own-l2 : (j′ : ℕ) → j′ < f .config .servers → j′ ≢ k → T ((serverAt f k) .alive) → Dec (j′ ≡ j) → f .time ≤ getD times-now (k * 4 + j′) 0 + f .config .silence
+    own-l2 : (j′ : ℕ) → j′ < f .config .servers → j′ ≢ k → T ((serverAt f k) .alive) → Dec (j′ ≡ j) → f .time ≤ getD times-now (k * 4 + j′) 0 + f .config .detection
     own-l2 j′ h ne ak (yes e) = rw e (omega (arith, time-about))
     own-l2 j′ h ne ak (no ne′) = omega (arith, time-else k j′ (λ e. ne′ (omega arith)), v .l2 k j′ hk h ne ak)
 
@@ -379,7 +379,7 @@ module _ (order : ℕ → ℕ → ℕ) (f : Facade) (g : Ranged f) (v : Led orde
     waited a h ak t = or-elim (leadsAt (serverAt f k) a) _ (and-r _ _ (leads-now a h t)) (v .l3 k a hk h ak) (λ x. leb→le _ (clock f k) x)
 
     pub led-notice : Led order ((effect f (notice k j says)) .facade)
-    unfolding effect deed takes takenOut enacted serverAfter noticesAfter noticed leadingWith set-now times-now now
+    unfolding effect deedOf takesOut takenOut enacted serverAfter noticesAfter noticed leadingWith set-now times-now now
     led-notice = replaced k now times-now (record {
       exists-i = hk;
       believed = length-set ((serverAt f k) .believed) j _ ∙ v .believed k hk;
@@ -396,14 +396,14 @@ module _ (order : ℕ → ℕ → ℕ) (f : Facade) (g : Ranged f) (v : Led orde
 
   -- pass
   module _ (d p : ℕ) (e : ℤ) (w : Kept f (pass d p e)) where
-    pass-clock : (j : ℕ) → clock f j ≤ plus (f .time + d) (getD (set (f .offsets) p (offsetAt f p +ℤ e)) j (pos 0))
+    pass-clock : (j : ℕ) → clock f j ≤ clockReading (f .time + d) (getD (set (f .offsets) p (offsetAt f p +ℤ e)) j (pos 0))
     unfolding ofPass clockAllows
     pass-clock j =
-        set-any (λ x. clock f j ≤ plus (f .time + d) x) (f .offsets) p (offsetAt f p +ℤ e) (pos 0) j
+        set-any (λ x. clock f j ≤ clockReading (f .time + d) x) (f .offsets) p (offsetAt f p +ℤ e) (pos 0) j
         (λ q. rw q (plus-mono (f .time) d (offsetAt f p) e (and-l _ _ (w .clocks))))
         (plus-later (f .time) d (offsetAt f j))
 
-    touch : (k j : ℕ) → k < f .config .servers → j < f .config .servers → j ≢ k → T ((serverAt f k) .alive) → f .time + d ≤ noticeAt f k j + f .config .silence
+    touch : (k j : ℕ) → k < f .config .servers → j < f .config .servers → j ≢ k → T ((serverAt f k) .alive) → f .time + d ≤ noticeAt f k j + f .config .detection
     unfolding ofPass inTouch
     touch k j hk hj ne ak =
         or-elim (not ((serverAt f k) .alive)) _ (all-at _ (f .config .servers) (w .touch) k hk)
@@ -411,7 +411,7 @@ module _ (order : ℕ → ℕ → ℕ) (f : Facade) (g : Ranged f) (v : Led orde
         (λ x. or-elim (eqb j k) _ (all-at _ (f .config .servers) x j hj) (λ q. absurd (ne (eqb→eq j k q))) (λ q. omega (arith, leb→le)))
 
     pub led-pass : Led order ((effect f (pass d p e)) .facade)
-    unfolding effect deed takes takenOut enacted lapse lapsedAt ended
+    unfolding effect deedOf takesOut takenOut enacted lapse lapsedAt holdsEnded
     led-pass = record {
       servers = v .servers;
       notices = v .notices;
@@ -433,7 +433,7 @@ module _ (order : ℕ → ℕ → ℕ) (f : Facade) (g : Ranged f) (v : Led orde
 
   -- a step that is not refused
   pub led-kept : Orders (f .config) order → (x : Action) → Kept f x → Led order ((effect f x) .facade)
-  unfolding effect deed takes takenOut enacted serverAfter noticesAfter clientAfter nextAfter
+  unfolding effect deedOf takesOut takenOut enacted serverAfter noticesAfter clientAfter nextAfter
   led-kept o (pass d p e) w = led-pass d p e w
   led-kept o (fail k) w = led-fail k w
   led-kept o (return k) w = led-return k w
@@ -455,7 +455,7 @@ led-fresh order c ok = record {
   notices = refl;
   believed = λ k h. of-fresh c ok (λ s. length (s .believed) ≡ 4) k h refl;
   leads = λ k h. of-fresh c ok (λ s. length (s .leads) ≡ 32) k h refl;
-  l1 = λ k j _ _ _ _ _ _. omega (arith, rep-ind (λ x. x ≤ 0) 16 0 0 (k * 4 + j) (omega arith) (omega arith), ok .silence-low);
+  l1 = λ k j _ _ _ _ _ _. omega (arith, rep-ind (λ x. x ≤ 0) 16 0 0 (k * 4 + j) (omega arith) (omega arith), ok .detection-low);
   l2 = λ k j _ _ _ _. omega arith;
   l3 = λ j a h _. of-fresh c ok (λ s. L3 (leadDelay c) (clock (fresh c) j) a (coreOf s)) j h (λ _ t. absurd (rep-false 32 a t));
   l4 = λ j h. of-fresh c ok (λ s. L4 (c .skew) (coreOf s)) j h (λ _. omega arith);

@@ -21,8 +21,8 @@ use Rattle.types.specs.declared.Body.{Body}
 use Rattle.types.specs.declared.Body.the-variants.{Empty, Discover, Offer, Request, Renew, Write, WriteAck, Ack}
 use Rattle.types.specs.declared.Message.{Message}
 use Rattle.types.specs.declared.Facade.{Facade}
-use Rattle.rules.specs.Clock.{plus}
-use Rattle.rules.specs.Parts.{noServer, noClient, clientParty, leadsAt, lentAt, recordAt, writeAt}
+use Rattle.rules.specs.Clock.{clockReading}
+use Rattle.rules.specs.Parts.{noServer, noClient, clientParty, leadsAt, lentAt, potleaseAt, writeAt}
 use Rattle.rules.proofs.Laws.{set-case}
 use Rattle.rules.proofs.Cable.{Waits}
 
@@ -46,15 +46,15 @@ abbrev pub held : World → ℕ → State
 held w i = (getD (w .clients) i noClient) .state
 
 abbrev pub clk : World → ℕ → ℕ
-clk w p = plus (w .time) (getD (w .offsets) p (pos 0))
+clk w p = clockReading (w .time) (getD (w .offsets) p (pos 0))
 
 -- The invariant.
 
 -- end e for address a is covered: by the record of each live leader, and at each server
 -- by its record or by what it would record at least on beginning to lead
 pub record Cov (w : World) (a e : ℕ) : Type 0 where
-  pub led : (j : ℕ) → j < w .config .servers → T ((srv w j) .alive) → T (leadsAt (srv w j) a) → e ≤ recordAt (srv w j) a
-  pub every : (j : ℕ) → j < w .config .servers → e ≤ max (recordAt (srv w j) a) (w .time + w .config .skew + w .config .mclt)
+  pub led : (j : ℕ) → j < w .config .servers → T ((srv w j) .alive) → T (leadsAt (srv w j) a) → e ≤ potleaseAt (srv w j) a
+  pub every : (j : ℕ) → j < w .config .servers → e ≤ max (potleaseAt (srv w j) a) (w .time + w .config .skew + w .config .mclt)
 
 -- a message that promises client i address a until e, or quotes such a promise
 abbrev pub Says : Config → ℕ → ℕ → Body → ℕ → ℕ → ℕ → Type 0
@@ -78,7 +78,7 @@ pub data Claim (w : World) (i a e : ℕ) : Type 0 where
 -- an open write counts only servers whose record has its end
 abbrev pub CountOk : World → ℕ → List Bool → Pending → Type 0
 CountOk w a acked Closed = Unit {0}
-CountOk w a acked (Open q v) = (j : ℕ) → j < w .config .servers → T (getD acked j false) → v ≤ recordAt (srv w j) a
+CountOk w a acked (Open q v) = (j : ℕ) → j < w .config .servers → T (getD acked j false) → v ≤ potleaseAt (srv w j) a
 
 abbrev pub OpenOk : World → ℕ → OpenWrite → Type 0
 OpenOk w a o = CountOk w a (o .acked) (o .pending)
@@ -91,7 +91,7 @@ BodyOk w from (Offer a) = Unit {0}
 BodyOk w from (Request a t) = Unit {0}
 BodyOk w from (Renew a e t) = Unit {0}
 BodyOk w from (Write a v) = Unit {0}
-BodyOk w from (WriteAck a v) = v ≤ recordAt (srv w from) a
+BodyOk w from (WriteAck a v) = v ≤ potleaseAt (srv w from) a
 BodyOk w from (Ack a e) = Unit {0}
 
 pub record Leased (w : World) : Type 0 where
@@ -109,9 +109,9 @@ pub record Leased (w : World) : Type 0 where
 pub record Grows (w w′ : World) : Type 0 where
   pub same : w′ .config ≡ w .config
   pub later : w .time ≤ w′ .time
-  pub records : (j a : ℕ) → recordAt (srv w j) a ≤ recordAt (srv w′ j) a
+  pub records : (j a : ℕ) → potleaseAt (srv w j) a ≤ potleaseAt (srv w′ j) a
   pub leads : (j a e : ℕ) → j < w .config .servers → a < w .config .addresses
-      → T ((srv w′ j) .alive) → T (leadsAt (srv w′ j) a) → Cov w a e → e ≤ recordAt (srv w′ j) a
+      → T ((srv w′ j) .alive) → T (leadsAt (srv w′ j) a) → Cov w a e → e ≤ potleaseAt (srv w′ j) a
 
 module _ (w w′ : World) (x : Grows w w′) where
   here : (j : ℕ) → j < w′ .config .servers → j < w .config .servers
@@ -149,7 +149,7 @@ module _ (w : World) (v : Leased w) (t : ℕ) (os : List ℤ) (xs : List Client)
   pub plain :
       ((i a e : ℕ) → Claim (passedBy w t os xs out) i a e → Claim w i a e)
       → ((m : Message) → out m → BodyOk w (m .sender) (m .body))
-      → ((i a e q : ℕ) → i < w .config .clients → (getD xs i noClient) .state ≡ Holding a e q → plus t (getD os (clientParty (w .config) i) (pos 0)) < e)
+      → ((i a e q : ℕ) → i < w .config .clients → (getD xs i noClient) .state ≡ Holding a e q → clockReading t (getD os (clientParty (w .config) i) (pos 0)) < e)
       → Leased (passedBy w t os xs out)
   plain sub mok abv = record {
     rows = v .rows;
@@ -170,16 +170,16 @@ servedBy w k s out = record { config = w .config; time = w .time; offsets = w .o
 pub record Raised (w : World) (k : ℕ) (s : Server) : Type 0 where
   pub place : k < length (w .servers)
   pub row : length (s .potlease) ≡ 32
-  pub up : (a : ℕ) → recordAt (srv w k) a ≤ recordAt s a
-  pub lead : (a e : ℕ) → a < w .config .addresses → T (s .alive) → T (leadsAt s a) → Cov w a e → e ≤ recordAt s a
+  pub up : (a : ℕ) → potleaseAt (srv w k) a ≤ potleaseAt s a
+  pub lead : (a e : ℕ) → a < w .config .addresses → T (s .alive) → T (leadsAt s a) → Cov w a e → e ≤ potleaseAt s a
 
 module _ (w : World) (v : Leased w) (k : ℕ) (s : Server) (out : Message → Type 0) (r : Raised w k s) where
   pub served-grows : Grows w (servedBy w k s out)
   served-grows = record {
     same = refl;
     later = le-refl _;
-    records = λ j a. set-case (λ x. recordAt (srv w j) a ≤ recordAt x a) (w .servers) k s noServer j (r .place) (λ q. rw q (r .up a)) (λ _. le-refl _);
-    leads = λ j a e hj ha. set-case (λ x. T (x .alive) → T (leadsAt x a) → Cov w a e → e ≤ recordAt x a) (w .servers) k s noServer j (r .place)
+    records = λ j a. set-case (λ x. potleaseAt (srv w j) a ≤ potleaseAt x a) (w .servers) k s noServer j (r .place) (λ q. rw q (r .up a)) (λ _. le-refl _);
+    leads = λ j a e hj ha. set-case (λ x. T (x .alive) → T (leadsAt x a) → Cov w a e → e ≤ potleaseAt x a) (w .servers) k s noServer j (r .place)
         (λ _. r .lead a e ha) (λ _ al le c. c .led j hj al le);
   }
 

@@ -33,13 +33,13 @@ use Rattle.types.specs.declared.ServerAnswer.{ServerAnswer}
 use Rattle.types.specs.declared.BindingAnswer.{BindingAnswer}
 use Rattle.types.specs.declared.ClientAnswer.{ClientAnswer}
 use Rattle.rules.specs.Conditions.{_and_, unless, all, lowest}
-use Rattle.rules.specs.Parts.{noServer, noReservation, noWrite, noClient, noMessage, reservedAt, lentAt, recordAt, writeAt, leadsAt, bindingAt, withLife, withLeading, withReserved, withBinding, message, clientParty, parties, serverAt, stateAt, messageAt, offsetAt, clock, withServer, withNotices, withClients, withClient, withTime, withNext}
+use Rattle.rules.specs.Parts.{noServer, noReservation, noWrite, noClient, noMessage, reservedAt, lentAt, potleaseAt, writeAt, leadsAt, bindingAt, withLife, withLeading, withReserved, withBinding, message, clientParty, parties, serverAt, stateAt, messageAt, offsetAt, clock, withServer, withNotices, withClients, withClient, withTime, withNext}
 use Rattle.rules.specs.Ranges.{configInRange, interactionInRange, offsetInRange, reservationInRange, writeInRange, addressInRange, serverInRange, stateInRange, isServer, isClient, bodyInRange, messageInRange, inRange, endInRange, readingInRange, lastTime, lastInteraction, mostWaiting, Sound}
 use Rattle.types.specs.declared.Deed.{Deed}
 use Rattle.rules.specs.Messages.{nothing, post, sendAll, without}
 use Rattle.rules.specs.Server.{answer, bindingAnswer, atAddress, closed, leadRecord, leadsAfter, recordAfter, leadingWith, noticed, afterReturn, reservationsBy, freedIfOld, cleaned, offerable, offered, onDiscover, addressFor, addressOf, handledAt, isRequest, granted, freedIfOf, dropped, grantable, onRequest, onRenew, onWrite, matchesWrite, acknowledged, onWriteAck, serverHandles, serverReceives}
 use Rattle.rules.specs.Client.{isHolding, reply, broadcast, lapsed, discovers, requests, renews, asksWith, onOffer, expects, onAck, clientHandles}
-use Rattle.rules.specs.Steps.{freshServer, fresh, Action, pass, fail, return, notice, discover, request, renew, deliver, lose, cleanup, unknown, action, fieldsInRange, exists, ofPass, timeLeft, clockAllows, interactionLeft, accepted, serverActs, clientActs, lapse, rowNow, delivered, deed, takes, position, takenOut, enacted, serverAfter, noticesAfter, clientAfter, nextAfter, effect, broken, refusal, answerTo, step, run, malformed, ended, barred, lapsedAt}
+use Rattle.rules.specs.Steps.{freshServer, fresh, Action, pass, fail, return, notice, discover, request, renew, deliver, lose, cleanup, unknown, actionOf, fieldsInRange, exists, ofPass, timeLeft, clockAllows, interactionLeft, accepted, serverActs, clientActs, lapse, rowNow, delivered, deedOf, takesOut, position, takenOut, enacted, serverAfter, noticesAfter, clientAfter, nextAfter, effect, broken, refusal, answerTo, step, run, malformed, holdsEnded, barred, lapsedAt}
 use Rattle.rules.proofs.Laws.{Or, inl, inr, and-l, and-r, and-both, cond-case, all-at, all-by, set-any, rep-ind, filled-any}
 use Rattle.rules.proofs.Clocks.{plus-high, not-negative-later, not-negative-sum}
 use Rattle.rules.proofs.Cable.{Waits, Posted, ToServer, length-sent, waits-sent, length-removed, waits-removed, posted-nothing, posted-one, posted-each, posted-others}
@@ -220,11 +220,11 @@ module _ (c : Config) (t n : ℕ) where
         let b : List Bool = set (s .believed) j (eqb says 1) in
         silent _ (with-records s v _ _ _ (λ a h. let old = v .records a h in
         filled-any (λ x. T (endInRange x)) _ (c .addresses) (s .potlease) 0 a
-        (λ _. cond-case (λ x. T (endInRange x)) (leadsAfter c k r s b a and not (leadsAt s a)) (max (recordAt s a) (leadRecord c r)) (recordAt s a) (λ _. omega bounds) (λ _. old)) old)) 0
+        (λ _. cond-case (λ x. T (endInRange x)) (leadsAfter c k r s b a and not (leadsAt s a)) (max (potleaseAt s a) (leadRecord c r)) (potleaseAt s a) (λ _. omega bounds) (λ _. old)) old)) 0
 
     cleaned-fits : (s : Server) → Stored c t n s → ServerFits c t n (cleaned c r s)
     unfolding cleaned freedIfOld
-    cleaned-fits s v = silent _ (fewer s v (freedIfOld c r) (λ q r′. ltb (r′ + c .hold) r) refl (λ q r′. refl)) 0
+    cleaned-fits s v = silent _ (fewer s v (freedIfOld c r) (λ q r′. ltb (r′ + c .retention) r) refl (λ q r′. refl)) 0
 
     -- a message in interaction q
     module _ (q : ℕ) (u : T (interactionInRange n q)) where
@@ -472,7 +472,7 @@ row-now ts k t i h =
 
 module _ (f : Facade) (l : length (f .messages) ≡ 128) (v : Ranged f) where
   good-pass : (d p : ℕ) (e : ℤ) → Kept f (pass d p e) → Good (effect f (pass d p e))
-  unfolding effect deed takes takenOut enacted lapse lapsedAt ended ofPass timeLeft clockAllows offsetInRange
+  unfolding effect deedOf takesOut takenOut enacted lapse lapsedAt holdsEnded ofPass timeLeft clockAllows offsetInRange
   good-pass d p e x =
       let g = later f v (f .time + d) (f .next) (set (f .offsets) p (offsetAt f p +ℤ e)) (omega arith) (leb→le (f .time + d) lastTime (x .time)) (le-refl _) (v .next-high)
       (λ p′ h. let o = v .offset p′ h in
@@ -499,7 +499,7 @@ module _ (f : Facade) (l : length (f .messages) ≡ 128) (v : Ranged f) where
       (length-removed (f .messages) p (f .waiting) h b ∙ l)
 
   good-effect : (x : Action) → Kept f x → Good (effect f x)
-  unfolding effect fieldsInRange exists interactionLeft afterReturn deed takes position takenOut enacted serverAfter noticesAfter clientAfter nextAfter
+  unfolding effect fieldsInRange exists interactionLeft afterReturn deedOf takesOut position takenOut enacted serverAfter noticesAfter clientAfter nextAfter
   good-effect (pass d p e) x = good-pass d p e x
   good-effect (fail k) x =
       let s = stored-at f v k (x .names) in
@@ -575,7 +575,7 @@ fresh-in-range c h = in-range (fresh c) (record {
 
 pub step-sound : (f : Facade) (s : Step) → Sound f → Sound ((step f s) .facade)
 unfolding step answerTo
-step-sound f s v = let x : Action = action s in
+step-sound f s v = let x : Action = actionOf s in
     cond-case (λ (y : Answer). Sound (y .facade)) (eqb (refusal f x) 0) _ _
     (λ e. let y = good f x (v .1) (eqb→eq (refusal f x) 0 e) in (in-range _ (y .range), y .full))
     (λ _. v)
@@ -619,7 +619,7 @@ pub never-two : (c : Config) (ss : List Step) (s : Step) → T (configInRange c)
 unfolding step answerTo
 never-two c ss s h =
     let f : Facade = run (fresh c) ss in
-    let x : Action = action s in
+    let x : Action = actionOf s in
     let v = run-sound (fresh c) ss (fresh-sound c h) in
     cond-case (λ (y : Answer). y .refusal ≢ 2) (eqb (refusal f x) 0) _ _
     (λ e. omega (arith, good f x (v .1) (eqb→eq (refusal f x) 0 e) .accepted))

@@ -11,7 +11,7 @@ use Rattle.types.specs.declared.Config.{Config}
 use Rattle.types.specs.declared.State.the-variants.{Holding}
 use Rattle.types.specs.declared.Facade.{Facade}
 use Rattle.types.specs.declared.Step.{Step}
-use Rattle.rules.specs.Parts.{serverAt, stateAt, leadsAt, recordAt}
+use Rattle.rules.specs.Parts.{serverAt, stateAt, leadsAt, potleaseAt}
 use Rattle.rules.specs.Ranges.{configInRange}
 use Rattle.rules.specs.Steps.{fresh, run}
 use Rattle.rules.proofs.Invariant.{Invariant, invariant, config-stays, one-holds, one-leads, recorded}
@@ -34,7 +34,7 @@ pub record Safe (c : Config) (f : Facade) : Type 0 where
   -- no two live servers lead one address
   pub one-leader : (j k a : ℕ) → a < c .addresses → Leads c f j a → Leads c f k a → j ≡ k
   -- no live server leads a held address with a record (potlease) below the held end
-  pub recorded-end : (i k a e : ℕ) → Holds c f i a e → Leads c f k a → e ≤ recordAt (serverAt f k) a
+  pub recorded-end : (i k a e : ℕ) → Holds c f i a e → Leads c f k a → e ≤ potleaseAt (serverAt f k) a
 
 of-invariant : (f : Facade) → Invariant f → Safe (f .config) f
 of-invariant f v = record {

@@ -11,10 +11,10 @@ use Rattle.types.specs.declared.Server.{Server}
 use Rattle.types.specs.declared.Message.{Message}
 use Rattle.types.specs.declared.Facade.{Facade}
 use Rattle.rules.specs.Conditions.{_and_, filled}
-use Rattle.rules.specs.Parts.{noWrite, serverAt, clock, leadsAt, recordAt, withLife}
+use Rattle.rules.specs.Parts.{noWrite, serverAt, clock, leadsAt, potleaseAt, withLife}
 use Rattle.rules.specs.Messages.{nothing, sendAll}
 use Rattle.rules.specs.Server.{closed, leadsAfter, recordAfter, leadingWith, noticed, keptRecords, afterReturn, cleaned}
-use Rattle.rules.specs.Steps.{fail, return, notice, cleanup, exists, deed, takes, takenOut, enacted, serverAfter, noticesAfter, effect}
+use Rattle.rules.specs.Steps.{fail, return, notice, cleanup, exists, deedOf, takesOut, takenOut, enacted, serverAfter, noticesAfter, effect}
 use Rattle.rules.proofs.Laws.{inl, and-l, cond-case, rep-ind, rep-false, length-filled, filled-at, filled-any}
 use Rattle.rules.proofs.Cable.{Waits, waits-unsent}
 use Rattle.rules.proofs.Kept.{Configured, configured, Ranged, Kept}
@@ -38,7 +38,7 @@ module _ (f : Facade) (g : Ranged f) (four : length (f .servers) ≡ 4) (len : l
   unsent m p = waits-unsent f (g .waiting) len m p
 
   pub leased-fail : (k : ℕ) → Kept f (fail k) → Leased (world ((effect f (fail k)) .facade))
-  unfolding effect deed takes takenOut enacted serverAfter noticesAfter exists
+  unfolding effect deedOf takesOut takenOut enacted serverAfter noticesAfter exists
   leased-fail k w =
       let hk : k < f .config .servers = ltb→lt k _ (w .names) in
       still (world f) v k (withLife (serverAt f k) false (f .time)) (Waits (sendAll f nothing))
@@ -46,11 +46,11 @@ module _ (f : Facade) (g : Ranged f) (four : length (f .servers) ≡ 4) (len : l
       hk (λ a. refl) (λ a. refl) (λ m p. v .acks m (unsent m p)) (λ m p i a e c. sent m (unsent m p) c)
 
   -- return: nothing is led or lent, and the records survive
-  survive : (k a : ℕ) → recordAt (serverAt f k) a ≤ getD (keptRecords (serverAt f k)) a 0
+  survive : (k a : ℕ) → potleaseAt (serverAt f k) a ≤ getD (keptRecords (serverAt f k)) a 0
   survive k a = omega arith
 
   pub leased-return : (k : ℕ) → Kept f (return k) → Leased (world ((effect f (return k)) .facade))
-  unfolding effect deed takes takenOut enacted serverAfter noticesAfter exists afterReturn
+  unfolding effect deedOf takesOut takenOut enacted serverAfter noticesAfter exists afterReturn
   leased-return k w =
       let hk : k < f .config .servers = ltb→lt k _ (w .names) in
       let s : Server = withLife ((afterReturn (clock f k) (serverAt f k)) .server) true (f .time) in
@@ -65,9 +65,9 @@ module _ (f : Facade) (g : Ranged f) (four : length (f .servers) ≡ 4) (len : l
 
   -- notice: on beginning to lead the record comes to cover every promise
   module _ (k : ℕ) (hk : k < f .config .servers) (b : List Bool) where
-    after-up : (a : ℕ) → recordAt (serverAt f k) a ≤ recordAfter (f .config) k (clock f k) (serverAt f k) b a
+    after-up : (a : ℕ) → potleaseAt (serverAt f k) a ≤ recordAfter (f .config) k (clock f k) (serverAt f k) b a
     unfolding recordAfter
-    after-up a = cond-case (λ x. recordAt (serverAt f k) a ≤ x) (leadsAfter (f .config) k (clock f k) (serverAt f k) b a and not (leadsAt (serverAt f k) a))
+    after-up a = cond-case (λ x. potleaseAt (serverAt f k) a ≤ x) (leadsAfter (f .config) k (clock f k) (serverAt f k) b a and not (leadsAt (serverAt f k) a))
         _ _ (λ _. omega arith) (λ _. le-refl _)
 
     begins : (now was : Bool) (x y e : ℕ) → T now → (T was → e ≤ y) → e ≤ x → e ≤ cond (now and not was) x y
@@ -94,12 +94,12 @@ module _ (f : Facade) (g : Ranged f) (four : length (f .servers) ≡ 4) (len : l
         record {
           place = place k hk;
           row = length-filled _ _ ((serverAt f k) .potlease) ∙ v .rows k hk;
-          up = λ a. filled-any (λ x. recordAt (serverAt f k) a ≤ x) _ (f .config .addresses) ((serverAt f k) .potlease) 0 a (λ _. after-up a) (le-refl _);
+          up = λ a. filled-any (λ x. potleaseAt (serverAt f k) a ≤ x) _ (f .config .addresses) ((serverAt f k) .potlease) 0 a (λ _. after-up a) (le-refl _);
           lead = λ a e ha al t c. rw (recorded a ha) (after-covers a e al (rw (led a ha) at t) c);
         }
 
   pub leased-notice : (k j says : ℕ) → length ((serverAt f k) .leads) ≡ 32 → Kept f (notice k j says) → Leased (world ((effect f (notice k j says)) .facade))
-  unfolding effect deed takes takenOut enacted serverAfter noticesAfter exists noticed leadingWith
+  unfolding effect deedOf takesOut takenOut enacted serverAfter noticesAfter exists noticed leadingWith
   leased-notice k j says leads w =
       let hk : k < f .config .servers = ltb→lt k _ (and-l _ _ (w .names)) in
       let b : List Bool = set ((serverAt f k) .believed) j (eqb says 1) in
@@ -108,7 +108,7 @@ module _ (f : Facade) (g : Ranged f) (four : length (f .servers) ≡ 4) (len : l
       (λ m p i a e c. sent m (unsent m p) c)
 
   pub leased-cleanup : OneLeader f → (k : ℕ) → Kept f (cleanup k) → Leased (world ((effect f (cleanup k)) .facade))
-  unfolding effect deed takes takenOut enacted serverAfter noticesAfter exists cleaned
+  unfolding effect deedOf takesOut takenOut enacted serverAfter noticesAfter exists cleaned
   leased-cleanup one k w =
       let hk : k < f .config .servers = ltb→lt k _ (w .names) in
       silent f g four one v k hk (Waits (sendAll f nothing)) _ 0 (λ m p. inl (unsent m p))

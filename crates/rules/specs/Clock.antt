@@ -5,9 +5,9 @@ use lib.Dec.{ltb}
 use lib.IntN.{ℤ, pos, negsuc}
 
 -- a clock reads true time plus the amount by which it is ahead
-abbrev pub plus : ℕ → ℤ → ℕ
-plus t (pos n) = t + n
-plus t (negsuc n) = t - suc n
+abbrev pub clockReading : ℕ → ℤ → ℕ
+clockReading t (pos n) = t + n
+clockReading t (negsuc n) = t - suc n
 
 -- and the sum is not negative
 abbrev pub notNegative : ℕ → ℤ → Bool
@@ -15,5 +15,5 @@ notNegative t (pos n) = true
 notNegative t (negsuc n) = ltb n t
 
 -- a number of four bytes in two's complement
-unfoldable pub signed : ℕ → ℤ
-signed x = cond (ltb x 2147483648) (pos x) (negsuc (4294967295 - x))
+unfoldable pub asSigned : ℕ → ℤ
+asSigned x = cond (ltb x 2147483648) (pos x) (negsuc (4294967295 - x))

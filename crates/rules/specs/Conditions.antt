@@ -16,8 +16,8 @@ true or b = true
 false or b = b
 
 -- low ≤ x ≤ high
-unfoldable pub within : ℕ → ℕ → ℕ → Bool
-within low high x = leb low x and leb x high
+unfoldable pub isWithin : ℕ → ℕ → ℕ → Bool
+isWithin low high x = leb low x and leb x high
 
 -- the number of a refusal where its test fails, and else what the refusals below it give
 unfoldable pub unless : Bool → ℕ → ℕ → ℕ

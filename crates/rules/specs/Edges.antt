@@ -118,12 +118,12 @@ mixed p m f = withMessages f (set (replicate 128 write) p m) 8
 unfoldable pub minus : ℕ → ℕ
 minus n = 4294967296 - n
 
--- the last end and the last clock reading in range
-lastEnd : ℕ
-lastEnd = 2000000000
+-- the last end and the last clock reading in range, as the paper has them
+greatestEnd : ℕ
+greatestEnd = 2000000000
 
-lastReading : ℕ
-lastReading = 1000001000
+greatestReading : ℕ
+greatestReading = 1000001000
 
 -- The facades of the table.
 
@@ -199,14 +199,14 @@ stored =
     -- no limit says who may lead or hold, or what is above the clock
     ∷ sound (base ▷ server 0 leading ▷ server 1 leading ▷ client 0 (Holding 1 0 1) ▷ client 1 (Holding 1 0 1))
     ∷ map (λ g. sound (base ▷ server 2 g))
-    (back lastReading ∷ reserves 1 1 0 ∷ reserves 1 8 lastReading ∷ lends 1 lastEnd ∷ records 1 lastEnd ∷ writes 1 1 0 ∷ writes 1 8 lastEnd
+    (back greatestReading ∷ reserves 1 1 0 ∷ reserves 1 8 greatestReading ∷ lends 1 greatestEnd ∷ records 1 greatestEnd ∷ writes 1 1 0 ∷ writes 1 8 greatestEnd
     -- there is no address 2
-    ∷ reserves 2 0 (lastReading + 1) ∷ lends 2 (lastEnd + 1) ∷ records 2 (lastEnd + 1) ∷ writes 2 9 (lastEnd + 1) ∷ [])
+    ∷ reserves 2 0 (greatestReading + 1) ∷ lends 2 (greatestEnd + 1) ∷ records 2 (greatestEnd + 1) ∷ writes 2 9 (greatestEnd + 1) ∷ [])
     ++ map (λ g. faulty (base ▷ server 2 g))
-    (back (lastReading + 1)
-    ∷ reserves 1 0 0 ∷ reserves 1 9 0 ∷ reserves 0 9 0 ∷ reserves 1 8 (lastReading + 1)
-    ∷ lends 1 (lastEnd + 1) ∷ lends 0 (lastEnd + 1) ∷ records 1 (lastEnd + 1) ∷ records 0 (lastEnd + 1)
-    ∷ writes 1 0 0 ∷ writes 1 9 0 ∷ writes 0 9 0 ∷ writes 1 8 (lastEnd + 1)
+    (back (greatestReading + 1)
+    ∷ reserves 1 0 0 ∷ reserves 1 9 0 ∷ reserves 0 9 0 ∷ reserves 1 8 (greatestReading + 1)
+    ∷ lends 1 (greatestEnd + 1) ∷ lends 0 (greatestEnd + 1) ∷ records 1 (greatestEnd + 1) ∷ records 0 (greatestEnd + 1)
+    ∷ writes 1 0 0 ∷ writes 1 9 0 ∷ writes 0 9 0 ∷ writes 1 8 (greatestEnd + 1)
     ∷ [])
 
 -- 2: the clients, to the last one; there is no client 4
@@ -214,10 +214,10 @@ states : List Row
 states =
     faulty (base ▷ client 0 (Asking 9)) ∷ sound (base ▷ client 4 (Asking 9))
     ∷ map (λ x. sound (base ▷ client 3 x))
-    (Asking 1 ∷ Asking 8 ∷ Offered 1 1 ∷ Offered 8 1 ∷ Waiting 1 1 ∷ Waiting 8 1 ∷ Holding 1 0 1 ∷ Holding 1 lastEnd 8 ∷ [])
+    (Asking 1 ∷ Asking 8 ∷ Offered 1 1 ∷ Offered 8 1 ∷ Waiting 1 1 ∷ Waiting 8 1 ∷ Holding 1 0 1 ∷ Holding 1 greatestEnd 8 ∷ [])
     ++ map (λ x. faulty (base ▷ client 3 x))
     (Asking 0 ∷ Asking 9 ∷ Offered 0 1 ∷ Offered 9 1 ∷ Offered 8 2 ∷ Waiting 0 1 ∷ Waiting 9 1 ∷ Waiting 8 2
-    ∷ Holding 2 150 8 ∷ Holding 1 (lastEnd + 1) 8 ∷ Holding 1 150 0 ∷ Holding 1 150 9
+    ∷ Holding 2 150 8 ∷ Holding 1 (greatestEnd + 1) 8 ∷ Holding 1 150 0 ∷ Holding 1 150 9
     ∷ [])
 
 -- 2: a waiting message; parties 0 to 2 are servers, 3 to 6 clients. A write to itself is not excluded.
@@ -226,23 +226,23 @@ letters =
     map (λ m. sound (base ▷ mail 1 m))
     (message 3 0 1 Discover ∷ message 6 2 8 Discover
     ∷ message 0 3 1 (Offer 0) ∷ message 2 6 8 (Offer 1)
-    ∷ message 3 2 8 (Request 1 lastEnd) ∷ message 6 0 8 (Request 1 0)
-    ∷ message 3 2 8 (Renew 1 lastEnd lastEnd) ∷ message 6 0 8 (Renew 1 0 0)
-    ∷ message 0 2 8 (Write 1 lastEnd) ∷ message 2 0 8 (Write 0 0) ∷ message 2 2 8 (Write 0 0)
-    ∷ message 0 2 8 (WriteAck 1 lastEnd) ∷ message 2 0 8 (WriteAck 0 0) ∷ message 2 2 8 (WriteAck 0 0)
-    ∷ message 0 3 8 (Ack 1 lastEnd) ∷ message 2 6 8 (Ack 0 0)
+    ∷ message 3 2 8 (Request 1 greatestEnd) ∷ message 6 0 8 (Request 1 0)
+    ∷ message 3 2 8 (Renew 1 greatestEnd greatestEnd) ∷ message 6 0 8 (Renew 1 0 0)
+    ∷ message 0 2 8 (Write 1 greatestEnd) ∷ message 2 0 8 (Write 0 0) ∷ message 2 2 8 (Write 0 0)
+    ∷ message 0 2 8 (WriteAck 1 greatestEnd) ∷ message 2 0 8 (WriteAck 0 0) ∷ message 2 2 8 (WriteAck 0 0)
+    ∷ message 0 3 8 (Ack 1 greatestEnd) ∷ message 2 6 8 (Ack 0 0)
     ∷ [])
     ++ map (λ m. faulty (base ▷ mail 1 m))
     (message 3 0 1 Empty ∷ message 3 0 0 Discover ∷ message 3 0 9 Discover
     ∷ message 2 0 1 Discover ∷ message 7 0 1 Discover ∷ message 3 3 1 Discover
     ∷ message 3 3 1 (Offer 0) ∷ message 0 2 1 (Offer 0) ∷ message 0 7 1 (Offer 0) ∷ message 0 3 1 (Offer 2)
     ∷ message 2 0 1 (Request 0 0) ∷ message 7 0 1 (Request 0 0) ∷ message 3 3 1 (Request 0 0)
-    ∷ message 3 0 1 (Request 2 0) ∷ message 3 0 1 (Request 0 (lastEnd + 1))
+    ∷ message 3 0 1 (Request 2 0) ∷ message 3 0 1 (Request 0 (greatestEnd + 1))
     ∷ message 2 0 1 (Renew 0 0 0) ∷ message 7 0 1 (Renew 0 0 0) ∷ message 3 3 1 (Renew 0 0 0)
-    ∷ message 3 0 1 (Renew 2 0 0) ∷ message 3 0 1 (Renew 0 (lastEnd + 1) 0) ∷ message 3 0 1 (Renew 0 0 (lastEnd + 1))
-    ∷ message 3 0 1 (Write 0 0) ∷ message 0 3 1 (Write 0 0) ∷ message 0 1 1 (Write 2 0) ∷ message 0 1 1 (Write 0 (lastEnd + 1))
-    ∷ message 3 0 1 (WriteAck 0 0) ∷ message 0 3 1 (WriteAck 0 0) ∷ message 0 1 1 (WriteAck 2 0) ∷ message 0 1 1 (WriteAck 0 (lastEnd + 1))
-    ∷ message 3 3 1 (Ack 0 0) ∷ message 0 2 1 (Ack 0 0) ∷ message 0 7 1 (Ack 0 0) ∷ message 0 3 1 (Ack 2 0) ∷ message 0 3 1 (Ack 0 (lastEnd + 1))
+    ∷ message 3 0 1 (Renew 2 0 0) ∷ message 3 0 1 (Renew 0 (greatestEnd + 1) 0) ∷ message 3 0 1 (Renew 0 0 (greatestEnd + 1))
+    ∷ message 3 0 1 (Write 0 0) ∷ message 0 3 1 (Write 0 0) ∷ message 0 1 1 (Write 2 0) ∷ message 0 1 1 (Write 0 (greatestEnd + 1))
+    ∷ message 3 0 1 (WriteAck 0 0) ∷ message 0 3 1 (WriteAck 0 0) ∷ message 0 1 1 (WriteAck 2 0) ∷ message 0 1 1 (WriteAck 0 (greatestEnd + 1))
+    ∷ message 3 3 1 (Ack 0 0) ∷ message 0 2 1 (Ack 0 0) ∷ message 0 7 1 (Ack 0 0) ∷ message 0 3 1 (Ack 2 0) ∷ message 0 3 1 (Ack 0 (greatestEnd + 1))
     ∷ [])
     -- all that wait are looked at, and the place behind them is not
     ++ (faulty (base ▷ mixed 0 noMessage) ∷ faulty (base ▷ mixed 7 noMessage) ∷ sound (base ▷ mixed 8 noMessage) ∷ [])
@@ -262,8 +262,8 @@ fields =
     row silent (pass 0 0 0) 5 ∷ row silent (pass 1 0 0) 0 ∷ row silent (pass 100000 0 0) 0 ∷ row silent (pass 100001 0 0) 5
     ∷ row loose (pass 2001 0 2000) 0 ∷ row loose (pass 2001 0 2001) 5 ∷ row loose (pass 2001 0 2147483647) 5
     ∷ row loose (pass 2001 3 (minus 2000)) 0 ∷ row loose (pass 2001 3 (minus 2001)) 5 ∷ row loose (pass 2001 3 2147483648) 5
-    ∷ row base (request 1 lastEnd) 0 ∷ row base (request 1 (lastEnd + 1)) 5
-    ∷ row base (renew 2 lastEnd) 0 ∷ row base (renew 2 (lastEnd + 1)) 5
+    ∷ row base (request 1 greatestEnd) 0 ∷ row base (request 1 (greatestEnd + 1)) 5
+    ∷ row base (renew 2 greatestEnd) 0 ∷ row base (renew 2 (greatestEnd + 1)) 5
     ∷ row base (deliver 0 0) 0 ∷ row base (deliver 0 1) 0 ∷ row base (deliver 0 2) 5 ∷ row base (deliver 0 256) 5
     ∷ row base (notice 0 1 0) 0 ∷ row base (notice 0 1 1) 0 ∷ row base (notice 0 1 2) 5 ∷ row base (notice 0 1 256) 5
     ∷ []
@@ -387,11 +387,11 @@ pairs : List Row
 pairs =
     -- 5 before 6, 7, 8, 9, 10, 11, 12 and 13
     row base (pass 0 99 0) 5 ∷ row base (notice 0 0 2) 5 ∷ row base (deliver 200 2) 5
-    ∷ row base (request 4 (lastEnd + 1)) 5 ∷ row base (renew 4 (lastEnd + 1)) 5
-    ∷ row base (notice 2 1 2) 5 ∷ row base (request 0 (lastEnd + 1)) 5 ∷ row base (renew 0 (lastEnd + 1)) 5
+    ∷ row base (request 4 (greatestEnd + 1)) 5 ∷ row base (renew 4 (greatestEnd + 1)) 5
+    ∷ row base (notice 2 1 2) 5 ∷ row base (request 0 (greatestEnd + 1)) 5 ∷ row base (renew 0 (greatestEnd + 1)) 5
     ∷ row (silent ▷ at 1000000000) (pass 100001 0 0) 5 ∷ row base (pass 1 0 2001) 5 ∷ row base (pass 100001 0 0) 5
-    ∷ row (base ▷ alive 1 0) (notice 0 1 2) 5 ∷ row (base ▷ next 1000001) (renew 2 (lastEnd + 1)) 5
-    ∷ row (full 128) (deliver 0 2) 5 ∷ row (full 128) (request 1 (lastEnd + 1)) 5
+    ∷ row (base ▷ alive 1 0) (notice 0 1 2) 5 ∷ row (base ▷ next 1000001) (renew 2 (greatestEnd + 1)) 5
+    ∷ row (full 128) (deliver 0 2) 5 ∷ row (full 128) (request 1 (greatestEnd + 1)) 5
     -- 6 before 7, 8, 9, 10, 11, 12 and 13
     ∷ row base (notice 0 0 0) 6 ∷ row base (notice 2 2 1) 6 ∷ row (base ▷ dead 3 0) (fail 3) 6 ∷ row base (return 3) 6
     ∷ row (base ▷ client 4 (Holding 0 150 1)) (discover 4) 6 ∷ row base (request 4 0) 6 ∷ row base (renew 4 0) 6
@@ -420,7 +420,7 @@ table = configs ++ counts ++ stored ++ states ++ letters ++ steps ++ map spoiled
 
 -- to open this one is to open the table
 unfoldable answerOf : Row → Answer
-unfolding answered row rowOutcome sound faulty _▷_ at next ahead heard client server alive dead after back leading keeping reserves lends records writes mail write mixed minus lastEnd lastReading base awake silent loose new full granting offering configs counts stored states letters kinds fields names conditions passes untrue spent crowded sees outcomes pairs steps spoiled table
+unfolding answered row rowOutcome sound faulty _▷_ at next ahead heard client server alive dead after back leading keeping reserves lends records writes mail write mixed minus greatestEnd greatestReading base awake silent loose new full granting offering configs counts stored states letters kinds fields names conditions passes untrue spent crowded sees outcomes pairs steps spoiled table
 answerOf x = answered (x .given) (x .asked)
 
 -- the claim: the rules give what the table says

@@ -78,38 +78,38 @@ shut = record { pending = Closed; acked = flags false false false false }
 
 -- Changes to a facade.
 
-abbrev facadeOf : Config → ℕ → ℕ → List ℤ → List Server → List ℕ → List Client → List Message → ℕ → Facade
-facadeOf c t n os ss ts xs ms w =
+abbrev facadeWith : Config → ℕ → ℕ → List ℤ → List Server → List ℕ → List Client → List Message → ℕ → Facade
+facadeWith c t n os ss ts xs ms w =
     record { config = c; time = t; next = n; offsets = os; servers = ss; notices = ts; clients = xs; messages = ms; waiting = w }
 
 abbrev configured : Config → Facade → Facade
-configured c f = facadeOf c (f .time) (f .next) (f .offsets) (f .servers) (f .notices) (f .clients) (f .messages) (f .waiting)
+configured c f = facadeWith c (f .time) (f .next) (f .offsets) (f .servers) (f .notices) (f .clients) (f .messages) (f .waiting)
 
 abbrev now : ℕ → Facade → Facade
-now t f = facadeOf (f .config) t (f .next) (f .offsets) (f .servers) (f .notices) (f .clients) (f .messages) (f .waiting)
+now t f = facadeWith (f .config) t (f .next) (f .offsets) (f .servers) (f .notices) (f .clients) (f .messages) (f .waiting)
 
 abbrev next : ℕ → Facade → Facade
-next n f = facadeOf (f .config) (f .time) n (f .offsets) (f .servers) (f .notices) (f .clients) (f .messages) (f .waiting)
+next n f = facadeWith (f .config) (f .time) n (f .offsets) (f .servers) (f .notices) (f .clients) (f .messages) (f .waiting)
 
 -- the clock of party p is o ahead
 abbrev ahead : ℕ → ℤ → Facade → Facade
-ahead p o f = facadeOf (f .config) (f .time) (f .next) (set (f .offsets) p o) (f .servers) (f .notices) (f .clients) (f .messages) (f .waiting)
+ahead p o f = facadeWith (f .config) (f .time) (f .next) (set (f .offsets) p o) (f .servers) (f .notices) (f .clients) (f .messages) (f .waiting)
 
 abbrev server : ℕ → List (Server → Server) → Facade → Facade
 server k gs f =
-    facadeOf (f .config) (f .time) (f .next) (f .offsets) (set (f .servers) k (through gs (getD (f .servers) k noServer))) (f .notices) (f .clients) (f .messages) (f .waiting)
+    facadeWith (f .config) (f .time) (f .next) (f .offsets) (set (f .servers) k (through gs (getD (f .servers) k noServer))) (f .notices) (f .clients) (f .messages) (f .waiting)
 
 -- server k last had a notice about server j at t
 abbrev heard : ℕ → ℕ → ℕ → Facade → Facade
-heard k j t f = facadeOf (f .config) (f .time) (f .next) (f .offsets) (f .servers) (set (f .notices) (k * 4 + j) t) (f .clients) (f .messages) (f .waiting)
+heard k j t f = facadeWith (f .config) (f .time) (f .next) (f .offsets) (f .servers) (set (f .notices) (k * 4 + j) t) (f .clients) (f .messages) (f .waiting)
 
 abbrev client : ℕ → State → Facade → Facade
-client i x f = facadeOf (f .config) (f .time) (f .next) (f .offsets) (f .servers) (f .notices) (set (f .clients) i (record { state = x })) (f .messages) (f .waiting)
+client i x f = facadeWith (f .config) (f .time) (f .next) (f .offsets) (f .servers) (f .notices) (set (f .clients) i (record { state = x })) (f .messages) (f .waiting)
 
 -- n messages wait; the places begin with ms, and odd messages fill the rest
 abbrev queue : ℕ → List Message → Facade → Facade
 queue n ms f =
-    facadeOf (f .config) (f .time) (f .next) (f .offsets) (f .servers) (f .notices) (f .clients) (take 128 (ms ++ replicate 128 (message 77 88 99 (Ack 44 4000000000)))) n
+    facadeWith (f .config) (f .time) (f .next) (f .offsets) (f .servers) (f .notices) (f .clients) (take 128 (ms ++ replicate 128 (message 77 88 99 (Ack 44 4000000000)))) n
 
 -- an emptied place
 abbrev none : Message
@@ -140,7 +140,7 @@ m₂ = message 1 0 5 (Write 3 99)
 
 abbrev odd : Facade
 odd =
-    facadeOf (configOf 3 4 4 2 10 50 10) 100 9
+    facadeWith (configOf 3 4 4 2 10 50 10) 100 9
     (pos 2 ∷ negsuc 1 ∷ pos 1 ∷ negsuc 0 ∷ pos 2 ∷ pos 0 ∷ pos 1 ∷ replicate 29 (pos 77))
     (numbered 0 true ∷ numbered 1 true ∷ numbered 2 false ∷ through (life true 999 ∷ back 3000000000 ∷ []) (numbered 9 false) ∷ [])
     (999 ∷ 95 ∷ 96 ∷ 888 ∷ 97 ∷ 999 ∷ 98 ∷ 888 ∷ 99 ∷ 96 ∷ 999 ∷ 888 ∷ replicate 4 888)
@@ -401,7 +401,7 @@ held-holds = refl
 
 abbrev begun : Config → Facade
 begun c =
-    facadeOf c 0 1 (replicate 36 (pos 0))
+    facadeWith c 0 1 (replicate 36 (pos 0))
     (replicate 4 (serverOf true 0 0 (replicate 4 true) (replicate 32 false) (replicate 32 (record { state = Free })) (replicate 32 0) (replicate 32 0) (replicate 32 shut)))
     (replicate 16 0) (replicate 32 (record { state = Idle })) (replicate 128 none) 0
 

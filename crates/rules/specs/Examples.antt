@@ -18,25 +18,23 @@ use Rattle.types.specs.declared.Message.{Message}
 use Rattle.types.specs.declared.Facade.{Facade}
 use Rattle.types.specs.declared.Step.{Step}
 use Rattle.types.specs.declared.Answer.{Answer}
-use Rattle.rules.specs.Conditions.{_and_, _or_, within, unless, all, lowest, filled}
-use Rattle.rules.specs.Clock.{signed}
-use Rattle.rules.specs.Parts.{noticeAt, believes, noReservation, serverAt, stateAt, leadsAt, reservedAt, lentAt, recordAt, message, inState, noMessage, withLife, withServer, withTime}
+use Rattle.rules.specs.Conditions.{_and_, _or_, isWithin, unless, all, lowest, filled}
+use Rattle.rules.specs.Clock.{asSigned}
+use Rattle.rules.specs.Parts.{noticeAt, believes, noReservation, serverAt, stateAt, leadsAt, reservedAt, lentAt, potleaseAt, message, inState, noMessage, withLife, withServer, withTime}
 use Rattle.rules.specs.Ranges.{configInRange, interactionInRange, offsetInRange, reservationInRange, writeInRange, addressInRange, serverInRange, noticeInRange, stateInRange, isClient, bodyInRange, messageInRange, inRange}
 use Rattle.rules.specs.Order.{rank, isFirst}
 use Rattle.rules.specs.Messages.{postUnless, toServers, sentBehind, removed}
 use Rattle.rules.specs.Server.{closed, leadsAfter, recordAfter, leadingWith, noticed, afterReturn, freedIfOld, cleaned, isFree, offerable, offered, onDiscover, lowestOfferable, granted, freedIfOf, dropped, grantable, onRequest, onRenew, onWrite, matchesWrite, acknowledged, onWriteAck, addressFor, handledAt, isRequest, serverHandles, serverReceives}
 use Rattle.rules.specs.Client.{isOffered, isHolding, lapsed, discovers, requests, renews, asksWith, onOffer, expects, onAck, clientHandles}
-use Rattle.rules.specs.Steps.{fresh, action, isKnown, fieldsInRange, exists, stateAllows, ofPass, timeLeft, clockAllows, inTouch, isCredible, ofNotice, interactionLeft, lapse, rowNow, delivered, deed, takes, position, takenOut, enacted, serverAfter, noticesAfter, clientAfter, nextAfter, effect, broken, refusal, answerTo, step, run, ended, malformed, barred, lapsedAt}
+use Rattle.rules.specs.Steps.{fresh, actionOf, isKnown, fieldsInRange, exists, stateAllows, ofPass, timeLeft, clockAllows, inTouch, isCredible, ofNotice, interactionLeft, lapse, rowNow, delivered, deedOf, takesOut, position, takenOut, enacted, serverAfter, noticesAfter, clientAfter, nextAfter, effect, broken, refusal, answerTo, step, run, holdsEnded, malformed, barred, lapsedAt}
+pub use Rattle.rules.specs.Steps.{stepOf}
 
 -- the answer to a step; to open this one is to open every rule that it takes
 unfoldable pub answered : Facade → Step → Answer
-unfolding _and_ _or_ within unless all lowest filled signed configInRange interactionInRange offsetInRange reservationInRange writeInRange addressInRange serverInRange noticeInRange stateInRange isClient bodyInRange messageInRange inRange rank isFirst postUnless toServers sentBehind removed leadsAfter recordAfter leadingWith noticed afterReturn freedIfOld cleaned isFree offerable offered onDiscover lowestOfferable granted freedIfOf dropped grantable onRequest onRenew onWrite matchesWrite acknowledged onWriteAck addressFor handledAt isRequest serverHandles serverReceives lapsed discovers requests renews asksWith onOffer expects onAck clientHandles fresh action isKnown fieldsInRange exists isOffered isHolding stateAllows ofPass timeLeft clockAllows inTouch isCredible ofNotice interactionLeft lapse lapsedAt ended rowNow delivered deed takes position takenOut enacted serverAfter noticesAfter clientAfter nextAfter effect broken malformed barred refusal answerTo step run
+unfolding _and_ _or_ isWithin unless all lowest filled asSigned configInRange interactionInRange offsetInRange reservationInRange writeInRange addressInRange serverInRange noticeInRange stateInRange isClient bodyInRange messageInRange inRange rank isFirst postUnless toServers sentBehind removed leadsAfter recordAfter leadingWith noticed afterReturn freedIfOld cleaned isFree offerable offered onDiscover lowestOfferable granted freedIfOf dropped grantable onRequest onRenew onWrite matchesWrite acknowledged onWriteAck addressFor handledAt isRequest serverHandles serverReceives lapsed discovers requests renews asksWith onOffer expects onAck clientHandles fresh actionOf isKnown fieldsInRange exists isOffered isHolding stateAllows ofPass timeLeft clockAllows inTouch isCredible ofNotice interactionLeft lapse lapsedAt holdsEnded rowNow delivered deedOf takesOut position takenOut enacted serverAfter noticesAfter clientAfter nextAfter effect broken malformed barred refusal answerTo step run
 answered f s = step f s
 
 -- The ten steps by their numbers. A signed field is in two's complement.
-
-abbrev pub stepOf : ℕ → ℕ → ℕ → ℕ → Step
-stepOf n x y z = record { kind = n; first = x; second = y; third = z }
 
 abbrev pub pass : ℕ → ℕ → ℕ → Step
 pass d p e = stepOf 1 d p e
@@ -69,7 +67,7 @@ abbrev pub cleanup : ℕ → Step
 cleanup k = stepOf 10 k 0 0
 
 abbrev pub configOf : ℕ → ℕ → ℕ → ℕ → ℕ → ℕ → ℕ → Config
-configOf s c a skew silence mclt hold = record { servers = s; clients = c; addresses = a; skew = skew; silence = silence; mclt = mclt; hold = hold }
+configOf s c a skew detection mclt retention = record { servers = s; clients = c; addresses = a; skew = skew; detection = detection; mclt = mclt; retention = retention }
 
 -- Rows P1 to P12, with Δ=2, ν=5, μ=50, θ=10.
 
@@ -189,7 +187,7 @@ answer : Ask → List ℕ
 answer (requestAt v r t) =
     reading (λ f. lentAt (serverAt f 0) 0 ∷ sentEnds f) (answered (mailRow r (serverOf 0 0 true Free 0 v) (Request 0 t)) (deliver 0 0))
 answer (leadAt r′ r v) =
-    reading (λ f. bit (leadsAt (serverAt f 0) 0) ∷ recordAt (serverAt f 0) 0 ∷ []) (answered (serverRow r (serverOf 0 r′ false Free 0 v)) (notice 0 1 1))
+    reading (λ f. bit (leadsAt (serverAt f 0) 0) ∷ potleaseAt (serverAt f 0) 0 ∷ []) (answered (serverRow r (serverOf 0 r′ false Free 0 v)) (notice 0 1 1))
 answer (renewAt e r l) =
     reading (λ f. lentAt (serverAt f 0) 0 ∷ sentEnds f) (answered (mailRow r (serverOf 0 0 true Free l l) (Renew 0 e 0)) (deliver 0 0))
 answer (cleanAt r′ r) =
@@ -281,6 +279,6 @@ printed =
     ∷ []
 
 -- the fourteen lines, and the lease at the end: client 0 holds address 0 until 19, with 100 on record at server 0
-rig-holds : (lines rigStart rig ≡ printed) × (stateAt (run rigStart rig) 0 ≡ Holding 0 19 1) × (recordAt (serverAt (run rigStart rig) 0) 0 ≡ 100)
+rig-holds : (lines rigStart rig ≡ printed) × (stateAt (run rigStart rig) 0 ≡ Holding 0 19 1) × (potleaseAt (serverAt (run rigStart rig) 0) 0 ≡ 100)
 unfolding answered rig rigStart lineOf lines printed
 rig-holds = (refl, refl, refl)

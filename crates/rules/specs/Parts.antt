@@ -20,7 +20,7 @@ use Rattle.types.specs.declared.Body.{Body}
 use Rattle.types.specs.declared.Body.the-variants.{Empty}
 use Rattle.types.specs.declared.Message.{Message}
 use Rattle.types.specs.declared.Facade.{Facade}
-use Rattle.rules.specs.Clock.{plus}
+use Rattle.rules.specs.Clock.{clockReading}
 
 -- A server.
 
@@ -47,8 +47,8 @@ abbrev pub lentAt : Server → ℕ → ℕ
 lentAt s a = getD (s .lent) a 0
 
 -- the record (potlease)
-abbrev pub recordAt : Server → ℕ → ℕ
-recordAt s a = getD (s .potlease) a 0
+abbrev pub potleaseAt : Server → ℕ → ℕ
+potleaseAt s a = getD (s .potlease) a 0
 
 abbrev pub writeAt : Server → ℕ → OpenWrite
 writeAt s a = getD (s .writes) a noWrite
@@ -95,7 +95,7 @@ withReserved s rs = record {
 -- What a server keeps for address a: reading it, and replacing it.
 
 abbrev pub bindingAt : Server → ℕ → Binding
-bindingAt s a = record { leads = leadsAt s a; reserved = reservedAt s a; lent = lentAt s a; potlease = recordAt s a; write = writeAt s a }
+bindingAt s a = record { leads = leadsAt s a; reserved = reservedAt s a; lent = lentAt s a; potlease = potleaseAt s a; write = writeAt s a }
 
 abbrev pub withBinding : Server → ℕ → Binding → Server
 withBinding s a b = record {
@@ -157,7 +157,7 @@ offsetAt f p = offsetOf (f .offsets) p
 
 -- its clock, at true time t and of a facade
 abbrev pub clockOf : ℕ → List ℤ → ℕ → ℕ
-clockOf t os p = plus t (offsetOf os p)
+clockOf t os p = clockReading t (offsetOf os p)
 
 abbrev pub clock : Facade → ℕ → ℕ
 clock f p = clockOf (f .time) (f .offsets) p

@@ -18,28 +18,40 @@ use Rattle.types.specs.declared.Body.{Body}
 use Rattle.types.specs.declared.Body.the-variants.{Empty, Discover, Offer, Request, Renew, Write, WriteAck, Ack}
 use Rattle.types.specs.declared.Message.{Message}
 use Rattle.types.specs.declared.Facade.{Facade}
-use Rattle.rules.specs.Conditions.{_and_, _or_, within, all}
+use Rattle.rules.specs.Conditions.{_and_, _or_, isWithin, all}
 use Rattle.rules.specs.Clock.{notNegative}
-use Rattle.rules.specs.Parts.{parties, serverAt, stateAt, messageAt, offsetAt, noticeAt, reservedAt, lentAt, recordAt, writeAt}
+use Rattle.rules.specs.Parts.{parties, serverAt, stateAt, messageAt, offsetAt, noticeAt, reservedAt, lentAt, potleaseAt, writeAt}
 
 -- S servers are 2 to 4, C clients 1 to 32, A addresses 1 to 32; Δ is 0 to 1,000, ν 1 to 10,000, μ 1 to 1,000,000, θ 0 to 1,000,000
 unfoldable pub configInRange : Config → Bool
 configInRange c =
-    within 2 4 (c .servers)
-    and within 1 32 (c .clients)
-    and within 1 32 (c .addresses)
+    isWithin 2 4 (c .servers)
+    and isWithin 1 32 (c .clients)
+    and isWithin 1 32 (c .addresses)
     and leb (c .skew) 1000
-    and within 1 10000 (c .silence)
-    and within 1 1000000 (c .mclt)
-    and leb (c .hold) 1000000
+    and isWithin 1 10000 (c .detection)
+    and isWithin 1 1000000 (c .mclt)
+    and leb (c .retention) 1000000
 
 -- the last true time
 abbrev pub lastTime : ℕ
 lastTime = 1000000000
 
+-- the last clock reading: a clock is ahead by 1,000 at most
+abbrev pub lastReading : ℕ
+lastReading = 1000001000
+
+-- the last end
+abbrev pub lastEnd : ℕ
+lastEnd = 2000000000
+
 -- the last interaction number κ used
 abbrev pub lastInteraction : ℕ
 lastInteraction = 1000000
+
+-- the number after it: "the field then holds 1,000,001"
+abbrev pub afterLast : ℕ
+afterLast = lastInteraction + 1
 
 -- the most messages that may wait
 abbrev pub mostWaiting : ℕ
@@ -47,11 +59,11 @@ mostWaiting = 128
 
 -- "Every stored end, τ or record is 0 to 2,000,000,000."
 abbrev pub endInRange : ℕ → Bool
-endInRange e = leb e 2000000000
+endInRange e = leb e lastEnd
 
 -- "stored clock readings are 0 to 1,000,001,000"
 abbrev pub readingInRange : ℕ → Bool
-readingInRange r = leb r 1000001000
+readingInRange r = leb r lastReading
 
 -- "stored κ are from 1 and below the next one", n
 unfoldable pub interactionInRange : ℕ → ℕ → Bool
@@ -74,7 +86,7 @@ unfoldable pub addressInRange : ℕ → Server → ℕ → Bool
 addressInRange n s a =
     reservationInRange n (reservedAt s a)
     and endInRange (lentAt s a)
-    and endInRange (recordAt s a)
+    and endInRange (potleaseAt s a)
     and writeInRange n ((writeAt s a) .pending)
 
 -- "Stored true times are not above true time", t
@@ -117,7 +129,7 @@ unfoldable pub inRange : Facade → Bool
 inRange f =
     configInRange (f .config)
     and leb (f .time) lastTime
-    and within 1 (lastInteraction + 1) (f .next)
+    and isWithin 1 afterLast (f .next)
     and leb (f .waiting) mostWaiting
     and all (λ p. offsetInRange (f .config) (f .time) (offsetAt f p)) (parties (f .config))
     and all (λ k. serverInRange (f .config) (f .time) (f .next) (serverAt f k)) (f .config .servers)

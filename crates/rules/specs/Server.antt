@@ -23,7 +23,7 @@ use Rattle.types.specs.declared.Outbox.{Outbox}
 use Rattle.types.specs.declared.ServerAnswer.{ServerAnswer}
 use Rattle.types.specs.declared.BindingAnswer.{BindingAnswer}
 use Rattle.rules.specs.Conditions.{_and_, _or_, all, lowest, filled}
-use Rattle.rules.specs.Parts.{noReservation, leadsAt, recordAt, bindingAt, withLeading, withReserved, withBinding, withReservation, withLease, message}
+use Rattle.rules.specs.Parts.{noReservation, leadsAt, potleaseAt, bindingAt, withLeading, withReserved, withBinding, withReservation, withLease, message}
 use Rattle.rules.specs.Order.{isFirst}
 use Rattle.rules.specs.Messages.{nothing, post, toOthers}
 
@@ -49,7 +49,7 @@ opened q v acked = record { pending = Open q v; acked = acked }
 
 -- how long a server waits after its return before it may begin to lead: 2ν + 2Δ
 abbrev pub leadDelay : Config → ℕ
-leadDelay c = 2 * c .silence + 2 * c .skew
+leadDelay c = 2 * c .detection + 2 * c .skew
 
 -- what is recorded on beginning to lead: clock + μ + 2Δ
 abbrev pub leadRecord : Config → ℕ → ℕ
@@ -68,7 +68,7 @@ abbrev pub raised : Config → ℕ → Bool → Bool → ℕ → ℕ
 raised c r before now v = cond (now and not before) (max v (leadRecord c r)) v
 
 unfoldable pub recordAfter : Config → ℕ → ℕ → Server → List Bool → ℕ → ℕ
-recordAfter c k r s b a = raised c r (leadsAt s a) (leadsAfter c k r s b a) (recordAt s a)
+recordAfter c k r s b a = raised c r (leadsAt s a) (leadsAfter c k r s b a) (potleaseAt s a)
 
 -- the server with the set b, each address below A decided anew
 unfoldable pub leadingWith : Config → ℕ → ℕ → Server → List Bool → Server
@@ -111,7 +111,7 @@ reservationsBy g n rs = filled (λ a. record { state = g ((getD rs a noReservati
 -- "drops each reservation whose reading + θ < clock"
 unfoldable pub freedIfOld : Config → ℕ → Reserved → Reserved
 freedIfOld c r Free = Free
-freedIfOld c r (Taken q r′) = cond (ltb (r′ + c .hold) r) Free (Taken q r′)
+freedIfOld c r (Taken q r′) = cond (ltb (r′ + c .retention) r) Free (Taken q r′)
 
 -- the server with its old reservations dropped
 unfoldable pub cleaned : Config → ℕ → Server → ServerAnswer

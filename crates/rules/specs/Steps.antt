@@ -25,8 +25,8 @@ use Rattle.types.specs.declared.Answer.{Answer}
 use Rattle.types.specs.declared.World.{World}
 use Rattle.types.specs.declared.ServerAnswer.{ServerAnswer}
 use Rattle.types.specs.declared.ClientAnswer.{ClientAnswer}
-use Rattle.rules.specs.Conditions.{_and_, _or_, within, unless, all, counted, filled}
-use Rattle.rules.specs.Clock.{notNegative, signed}
+use Rattle.rules.specs.Conditions.{_and_, _or_, isWithin, unless, all, counted, filled}
+use Rattle.rules.specs.Clock.{notNegative, asSigned}
 use Rattle.rules.specs.Parts.{serverAt, stateAt, messageAt, offsetOf, noticeIn, clockOf, clock, clientParty, parties, inState, noClient, noMessage, withLife, withServer, withNotices, withClient, withClients, withTime, withNext}
 use Rattle.rules.specs.Views.{worldOf, timeIn, View, whole}
 use Rattle.rules.specs.Ranges.{configInRange, inRange, endInRange, isServer, lastTime, lastInteraction, mostWaiting}
@@ -53,10 +53,14 @@ fresh c = record {
   waiting = 0;
 }
 
+-- a step of kind k with three fields
+abbrev pub stepOf : ℕ → ℕ → ℕ → ℕ → Step
+stepOf k x y z = record { kind = k; first = x; second = y; third = z }
+
 -- "The kind number decides the step; fields follow in the order shown."
-unfoldable pub action : Step → Action
-action s =
-    cond (eqb (s .kind) 1) (pass (s .first) (s .second) (signed (s .third)))
+unfoldable pub actionOf : Step → Action
+actionOf s =
+    cond (eqb (s .kind) 1) (pass (s .first) (s .second) (asSigned (s .third)))
     (cond (eqb (s .kind) 2) (fail (s .first))
     (cond (eqb (s .kind) 3) (return (s .first))
     (cond (eqb (s .kind) 4) (notice (s .first) (s .second) (s .third))
@@ -86,7 +90,7 @@ isKnown unknown = false
 
 -- Refusal 5. "A d, e, τ, keep or says is outside its range."
 unfoldable pub fieldsInRange : Action → Bool
-fieldsInRange (pass d p e) = within 1 100000 d and leb (natAbs e) 2000
+fieldsInRange (pass d p e) = isWithin 1 100000 d and leb (natAbs e) 2000
 fieldsInRange (fail k) = true
 fieldsInRange (return k) = true
 fieldsInRange (notice k j says) = leb says 1
@@ -155,7 +159,7 @@ clockAllows v d p e = offsetAllows (v .world .config) (offsetOf (v .world .offse
 -- Refusal 10. "A pass would leave a live server more than ν without a notice about another." By the notice times ts and the true time t
 -- after it, server k had a notice about server j within ν, or is that server.
 abbrev pub hasHeard : Config → List ℕ → ℕ → ℕ → ℕ → Bool
-hasHeard c ts t k j = eqb j k or leb t (noticeIn ts k j + c .silence)
+hasHeard c ts t k j = eqb j k or leb t (noticeIn ts k j + c .detection)
 
 -- server k, if it is alive, had one about every other
 abbrev pub isInTouch : Config → List ℕ → ℕ → ℕ → Bool → Bool
@@ -170,11 +174,11 @@ inTouch v d p e = areInTouch (v .world .config) (v .world .notices) (v .world .t
 
 -- Refusal 11. "A dead notice about a server alive for ν or more since c, or an alive notice about one dead for ν or more." True
 -- time is t, and the server is alive or not since `changed`.
-abbrev pub isSo : Config → ℕ → Bool → ℕ → ℕ → Bool
-isSo c t alive changed says = cond (eqb says 1) alive (not alive) or ltb t (changed + c .silence)
+abbrev pub isCredibleNotice : Config → ℕ → Bool → ℕ → ℕ → Bool
+isCredibleNotice c t alive changed says = cond (eqb says 1) alive (not alive) or ltb t (changed + c .detection)
 
 unfoldable pub isCredible : View → ℕ → ℕ → Bool
-isCredible v j says = isSo (v .world .config) (v .world .time) (v .alive j) (v .changed j) says
+isCredible v j says = isCredibleNotice (v .world .config) (v .world .time) (v .alive j) (v .changed j) says
 
 -- a test of a notice alone
 unfoldable pub ofNotice : (ℕ → ℕ → Bool) → Action → Bool
@@ -224,11 +228,11 @@ moved f d p e = withTime f ((movedIn (worldOf f) d p e) .time) ((movedIn (worldO
 unfoldable pub lapsedAt : Config → ℕ → List ℤ → List Client → ℕ → Client
 lapsedAt c t os ys i = inState (lapsed (clockOf t os (clientParty c i)) ((getD ys i noClient) .state))
 
-unfoldable pub ended : Config → ℕ → List ℤ → List Client → List Client
-ended c t os ys = filled (lapsedAt c t os ys) (c .clients) ys
+unfoldable pub holdsEnded : Config → ℕ → List ℤ → List Client → List Client
+holdsEnded c t os ys = filled (lapsedAt c t os ys) (c .clients) ys
 
 unfoldable pub lapse : Facade → Facade
-lapse f = withClients f (ended (f .config) (f .time) (f .offsets) (f .clients))
+lapse f = withClients f (holdsEnded (f .config) (f .time) (f .offsets) (f .clients))
 
 -- Steps 2, 3, 4 and 10, and a message that comes: server k at true time t, whose clock reads r. Whether it is alive and since when is
 -- written here, and all else by what the server itself does.
@@ -272,18 +276,18 @@ unfoldable pub delivered : Config → Message → Deed
 delivered c m = cond (isServer c (m .receiver)) (Serves (m .receiver) (Receives m)) (Asks (m .receiver - c .servers) (Hears m))
 
 -- what happens in a step, where m is the message at the position that it names; a step that names none does not look at it
-unfoldable pub deed : Config → Message → Action → Deed
-deed c m (pass d p e) = Passes d p e
-deed c m (fail k) = Serves k Fails
-deed c m (return k) = Serves k Returns
-deed c m (notice k j says) = Serves k (Notices j says)
-deed c m (discover i) = Asks i Discovers
-deed c m (request i t) = Asks i (Requests t)
-deed c m (renew i t) = Asks i (Renews t)
-deed c m (deliver p keep) = delivered c m
-deed c m (lose p) = Rests
-deed c m (cleanup k) = Serves k CleansUp
-deed c m unknown = Rests
+unfoldable pub deedOf : Config → Message → Action → Deed
+deedOf c m (pass d p e) = Passes d p e
+deedOf c m (fail k) = Serves k Fails
+deedOf c m (return k) = Serves k Returns
+deedOf c m (notice k j says) = Serves k (Notices j says)
+deedOf c m (discover i) = Asks i Discovers
+deedOf c m (request i t) = Asks i (Requests t)
+deedOf c m (renew i t) = Asks i (Renews t)
+deedOf c m (deliver p keep) = delivered c m
+deedOf c m (lose p) = Rests
+deedOf c m (cleanup k) = Serves k CleansUp
+deedOf c m unknown = Rests
 
 -- the position of a message that a step names
 unfoldable pub position : Action → ℕ
@@ -300,21 +304,21 @@ position (cleanup k) = 0
 position unknown = 0
 
 -- whether that message is taken out. Step 8: "if keep is 0 the message is taken out first". Step 9, lose, does nothing else.
-unfoldable pub takes : Action → Bool
-takes (pass d p e) = false
-takes (fail k) = false
-takes (return k) = false
-takes (notice k j says) = false
-takes (discover i) = false
-takes (request i t) = false
-takes (renew i t) = false
-takes (deliver p keep) = eqb keep 0
-takes (lose p) = true
-takes (cleanup k) = false
-takes unknown = false
+unfoldable pub takesOut : Action → Bool
+takesOut (pass d p e) = false
+takesOut (fail k) = false
+takesOut (return k) = false
+takesOut (notice k j says) = false
+takesOut (discover i) = false
+takesOut (request i t) = false
+takesOut (renew i t) = false
+takesOut (deliver p keep) = eqb keep 0
+takesOut (lose p) = true
+takesOut (cleanup k) = false
+takesOut unknown = false
 
 unfoldable pub takenOut : Facade → Action → Facade
-takenOut f x = withoutIf f (position x) (takes x)
+takenOut f x = withoutIf f (position x) (takesOut x)
 
 -- server k is as it answered, and what it sends waits
 abbrev pub serverActs : Facade → ℕ → ServerAnswer → Answer
@@ -335,14 +339,14 @@ enacted f (Asks i e) =
 
 -- the facade and the outcome of a step that is not refused
 unfoldable pub effect : Facade → Action → Answer
-effect f x = enacted (takenOut f x) (deed (f .config) (messageAt f (position x)) x)
+effect f x = enacted (takenOut f x) (deedOf (f .config) (messageAt f (position x)) x)
 
 -- Refusal 13. "More than 128 messages would wait afterwards."
-abbrev pub hasRoom : Facade → Bool
-hasRoom f = leb (f .waiting) mostWaiting
+abbrev pub hasRoom : ℕ → Bool
+hasRoom n = leb n mostWaiting
 
 abbrev pub full : Facade → ℕ
-full f = unless (hasRoom f) 13 0
+full f = unless (hasRoom (f .waiting)) 13 0
 
 -- "Refusal list, checked from the top": the number of the first rule that is broken, or what the rules below give. Rules 4 and 5, which a
 -- step alone can break:
@@ -379,7 +383,7 @@ answerTo f x = unlessRefused f (refusal f x) (effect f x)
 
 -- the answer to a step, for every facade, kind number and fields
 unfoldable pub step : Facade → Step → Answer
-step f s = answerTo f (action s)
+step f s = answerTo f (actionOf s)
 
 -- a list of steps: each gets the facade that the last one returned
 unfoldable pub run : Facade → List Step → Facade

@@ -8,7 +8,7 @@ use lib.Dec.{T, eqb, ltb, ltb→lt, eqb→eq}
 use lib.ListN.{length, getD}
 use Rattle.types.specs.declared.Step.{Step}
 use Rattle.rules.specs.Conditions.{_and_, _or_}
-use Rattle.rules.specs.Steps.{Action, pass, fail, return, notice, discover, request, renew, deliver, lose, cleanup, unknown, action, isKnown}
+use Rattle.rules.specs.Steps.{Action, pass, fail, return, notice, discover, request, renew, deliver, lose, cleanup, unknown, actionOf, isKnown}
 use Rattle.rules.proofs.Laws.{and-l, and-r, or-elim, within-low}
 use Rattle.rules.proofs.Actions.{action-unknown, known-kind}
 use Rattle.script.specs.Layout.{fieldCount, stepOf, fieldsOf, lengthOf}
@@ -37,10 +37,10 @@ unknown-counts-none (cleanup k) = refl
 unknown-counts-none unknown = refl
 
 -- the kind decides whether a step is known: the unknown ones are those without fields
-pub unknown-has-no-fields : (s : Step) → not (isKnown (action s)) ≡ eqb (fieldsOf (s .kind)) 0
+pub unknown-has-no-fields : (s : Step) → not (isKnown (actionOf s)) ≡ eqb (fieldsOf (s .kind)) 0
 unfolding fieldsOf
 unknown-has-no-fields s =
-    ap not (sym (known-kind s) ∙ known-kind (stepOf (s .kind) 0 0 0)) ∙ unknown-counts-none (action (stepOf (s .kind) 0 0 0))
+    ap not (sym (known-kind s) ∙ known-kind (stepOf (s .kind) 0 0 0)) ∙ unknown-counts-none (actionOf (stepOf (s .kind) 0 0 0))
 
 -- the two tests of a frame, the second in terms of the fields
 pub framed : (r : List ℕ) → isFramed r ≡ (ltb 0 (length r) and (eqb (fieldsOf (getD r 0 0)) 0 or eqb (length r) (lengthOf (getD r 0 0))))

@@ -12,14 +12,14 @@ use lib.ListN.{length, getD, take, drop, length-append, length-drop, take-append
 use lib.Seq.{getD-drop, drop-drop, drop-cons, take-at, length-take-le}
 use Rattle.types.specs.declared.Step.{Step}
 use Rattle.rules.specs.Conditions.{_and_, _or_}
-use Rattle.rules.specs.Steps.{action, isKnown, malformed}
+use Rattle.rules.specs.Steps.{actionOf, isKnown, malformed}
 use Rattle.rules.proofs.Laws.{and-l, and-r, or-elim, unless-ok}
 use Rattle.wire.specs.Numbers.{bytesOf}
 use Rattle.wire.proofs.Numbers.{number-front}
 use Rattle.script.specs.declared.Decoded.{Decoded}
 use Rattle.script.specs.declared.Record.{Record}
 use Rattle.script.specs.Layout.{stepOf, fieldsOf, lengthOf, stepRefusal, recordOf}
-use Rattle.script.specs.Reading.{fieldIn, stepIn, isFramed, decoded, part, isWhole, recordAt}
+use Rattle.script.specs.Reading.{fieldIn, stepIn, isFramed, decode, part, isWhole, recordAt}
 use Rattle.script.specs.Writing.{canonical}
 use Rattle.script.proofs.Tests.{test-passed}
 use Rattle.script.proofs.Canonical.{few-fields, action-canonical}
@@ -85,8 +85,8 @@ module _ (s : Step) (w : InWords s) where
   behind-framed =
       rw (lt-ltb 0 (length (behind s)) (omega (arith, behind-length s)), eq-eqb _ _ (behind-length s)) (or-true _)
 
-  behind-decoded : decoded (behind s) ≡ record { refusal = stepRefusal s; step = canonical s }
-  unfolding decoded malformed
+  behind-decoded : decode (behind s) ≡ record { refusal = stepRefusal s; step = canonical s }
+  unfolding decode malformed
   behind-decoded = rw (behind-framed, behind-read, action-canonical s)
 
 -- The record at a place of a script.
@@ -110,7 +110,7 @@ module _ (s : List ℕ) (p : ℕ) where
     unfolding _and_
     whole-from = rw (first-from, lt-ltb p (length s) (omega (arith, length-from)), lt-ltb (p + length t) (length s) (omega (arith, length-from)))
 
-    record-from : recordAt s p ≡ record { refusal = (decoded t) .refusal; step = (decoded t) .step; next = p + 1 + length t }
+    record-from : recordAt s p ≡ record { refusal = (decode t) .refusal; step = (decode t) .step; next = p + 1 + length t }
     unfolding recordAt
     record-from = rw (whole-from, part-from, first-from)
 
@@ -142,26 +142,26 @@ record-written (k ∷ l) h o e =
     let n = fieldsOf k in
     rw (fields-written n k l (fours n l (omega arith) (drop-bytes 1 (k ∷ l) h)) (few-fields k), e)
 
-known-length : (r : List ℕ) → T (isFramed r) → T (isKnown (action (stepIn r))) → (0 < length r) × (length r ≡ lengthOf (getD r 0 0))
+known-length : (r : List ℕ) → T (isFramed r) → T (isKnown (actionOf (stepIn r))) → (0 < length r) × (length r ≡ lengthOf (getD r 0 0))
 unfolding isFramed
 known-length r t k = (
   ltb→lt 0 (length r) (and-l _ _ t),
-  or-elim _ _ (and-r _ _ t) (λ n. absurd (T-not (isKnown (action (stepIn r))) n k)) (λ e. eqb→eq (length r) (lengthOf (getD r 0 0)) e),
+  or-elim _ _ (and-r _ _ t) (λ n. absurd (T-not (isKnown (actionOf (stepIn r))) n k)) (λ e. eqb→eq (length r) (lengthOf (getD r 0 0)) e),
 )
 
-module _ (r : List ℕ) (h : Bytes r) (ok : (decoded r) .refusal ≡ 0) where
-  framed : T (isFramed r) × (decoded r ≡ record { refusal = stepRefusal (stepIn r); step = stepIn r })
-  unfolding decoded
+module _ (r : List ℕ) (h : Bytes r) (ok : (decode r) .refusal ≡ 0) where
+  framed : T (isFramed r) × (decode r ≡ record { refusal = stepRefusal (stepIn r); step = stepIn r })
+  unfolding decode
   framed = test-passed (λ (d : Decoded). d .refusal) (isFramed r) _ _ (omega arith) ok
 
   in-range : stepRefusal (stepIn r) ≡ 0
   in-range = rw (framed .1) at ok
 
-  known : T (isKnown (action (stepIn r)))
+  known : T (isKnown (actionOf (stepIn r)))
   unfolding malformed
   known = (unless-ok _ 4 _ (omega arith) in-range) .0
 
-  decoded-written : (recordOf ((decoded r) .step) ≡ length r ∷ r) × (stepRefusal ((decoded r) .step) ≡ 0)
+  decoded-written : (recordOf ((decode r) .step) ≡ length r ∷ r) × (stepRefusal ((decode r) .step) ≡ 0)
   decoded-written =
       let l = known-length r (framed .0) known in
       rw (framed .1) (record-written r h (l .0) (l .1), in-range)
@@ -173,7 +173,7 @@ pub record Accepted (s : List ℕ) (p : ℕ) (x : Record) : Type 0 where
   pub bytes : recordOf (x .step) ++ drop (x .next) s ≡ drop p s
 
 module _ (s : List ℕ) (p : ℕ) (h : Bytes s) (ok : (recordAt s p) .refusal ≡ 0) where
-  whole : T (isWhole s p) × (recordAt s p ≡ record { refusal = (decoded (part s p)) .refusal; step = (decoded (part s p)) .step; next = p + 1 + getD s p 0 })
+  whole : T (isWhole s p) × (recordAt s p ≡ record { refusal = (decode (part s p)) .refusal; step = (decode (part s p)) .step; next = p + 1 + getD s p 0 })
   unfolding recordAt
   whole = test-passed (λ (x : Record). x .refusal) (isWhole s p) _ _ (omega arith) ok
 
@@ -183,7 +183,7 @@ module _ (s : List ℕ) (p : ℕ) (h : Bytes s) (ok : (recordAt s p) .refusal �
   part-length : length (part s p) ≡ getD s p 0
   part-length = length-take-le (getD s p 0) (drop (p + 1) s) (omega (arith, inside, length-drop (p + 1) s))
 
-  part-written : (recordOf ((decoded (part s p)) .step) ≡ length (part s p) ∷ part s p) × (stepRefusal ((decoded (part s p)) .step) ≡ 0)
+  part-written : (recordOf ((decode (part s p)) .step) ≡ length (part s p) ∷ part s p) × (stepRefusal ((decode (part s p)) .step) ≡ 0)
   part-written =
       decoded-written (part s p) (take-bytes (getD s p 0) (drop (p + 1) s) (drop-bytes (p + 1) s h)) (rw (whole .1) at ok)
 

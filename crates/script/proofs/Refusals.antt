@@ -13,13 +13,13 @@ use Rattle.types.specs.declared.Answer.{Answer}
 use Rattle.rules.specs.Conditions.{unless}
 use Rattle.rules.specs.Ranges.{inRange}
 use Rattle.rules.specs.Views.{whole}
-use Rattle.rules.specs.Steps.{Action, action, isKnown, fieldsInRange, exists, stateAllows, ofPass, timeLeft, clockAllows, inTouch, ofNotice, isCredible, interactionLeft, malformed, barred, broken, enacted, effect, hasRoom, refused, refusal, answerTo, step}
+use Rattle.rules.specs.Steps.{Action, actionOf, isKnown, fieldsInRange, exists, stateAllows, ofPass, timeLeft, clockAllows, inTouch, ofNotice, isCredible, interactionLeft, malformed, barred, broken, enacted, effect, hasRoom, refused, refusal, answerTo, step}
 use Rattle.rules.proofs.Laws.{true-of, cond-case, unless-ok}
 use Rattle.rules.proofs.Refusals.{first-malformed, refused-first}
 use Rattle.script.specs.declared.Decoded.{Decoded}
 use Rattle.script.specs.declared.Record.{Record}
 use Rattle.script.specs.Layout.{stepRefusal}
-use Rattle.script.specs.Reading.{isFramed, decoded, part, isWhole, recordAt}
+use Rattle.script.specs.Reading.{isFramed, decode, part, isWhole, recordAt}
 
 -- a refusal that is neither 4 nor 5
 abbrev pub Other : ℕ → Type 0
@@ -42,10 +42,10 @@ unfolding effect
 effect-accepted f x = enacted-accepted _ _
 
 module _ (f : Facade) (s : Step) (t : T (inRange f)) where
-  other-refusal : stepRefusal s ≡ 0 → Other (refusal f (action s))
+  other-refusal : stepRefusal s ≡ 0 → Other (refusal f (actionOf s))
   unfolding refusal broken malformed barred unless
   other-refusal e =
-      let x = action s in
+      let x = actionOf s in
       let k = unless-ok (isKnown x) 4 _ (omega arith) e in
       let r = unless-ok (fieldsInRange x) 5 _ (omega arith) (k .1) in
       rw (true-of (inRange f) t, true-of (isKnown x) (k .0), true-of (fieldsInRange x) (r .0))
@@ -56,12 +56,12 @@ module _ (f : Facade) (s : Step) (t : T (inRange f)) where
       (other-below (ofPass (inTouch (whole f)) x) 10 (omega arith)
       (other-below (ofNotice (isCredible (whole f)) x) 11 (omega arith)
       (other-below (interactionLeft (whole f) x) 12 (omega arith)
-      (other-below (hasRoom ((effect f x) .facade)) 13 (omega arith) (omega arith)))))))))
+      (other-below (hasRoom ((effect f x) .facade .waiting)) 13 (omega arith) (omega arith)))))))))
 
   other-answer : stepRefusal s ≡ 0 → Other ((step f s) .refusal)
   unfolding step answerTo
   other-answer e =
-      let x = action s in
+      let x = actionOf s in
       cond-case (λ (a : Answer). Other (a .refusal)) (eqb (refusal f x) 0) (effect f x) (refused f (refusal f x))
       (λ t. rw (effect-accepted f x) (omega arith)) (λ t. other-refusal e)
 
@@ -70,12 +70,12 @@ module _ (f : Facade) (s : Step) (t : T (inRange f)) where
   unfolding step
   same-refusal = (
     other-answer,
-    λ n e. let nz : suc n ≡ 0 → ⊥ = λ h. omega (arith, h) in sym (refused-first f (action s) t (suc n) (first-malformed (whole f) (action s) (suc n) (sym e) nz) nz),
+    λ n e. let nz : suc n ≡ 0 → ⊥ = λ h. omega (arith, h) in sym (refused-first f (actionOf s) t (suc n) (first-malformed (whole f) (actionOf s) (suc n) (sym e) nz) nz),
   )
 
 -- The step that reading hands on has the refusal that reading gives, unless that is 3.
-decoded-refusal : (r : List ℕ) → ((decoded r) .refusal ≡ 3 → ⊥) → (decoded r) .refusal ≡ stepRefusal ((decoded r) .step)
-unfolding decoded
+decoded-refusal : (r : List ℕ) → ((decode r) .refusal ≡ 3 → ⊥) → (decode r) .refusal ≡ stepRefusal ((decode r) .step)
+unfolding decode
 decoded-refusal r =
     cond-case (λ (d : Decoded). (d .refusal ≡ 3 → ⊥) → d .refusal ≡ stepRefusal (d .step)) (isFramed r) _ _ (λ t n. refl) (λ t n. absurd (n refl))
 

@@ -10,15 +10,15 @@ use lib.ListN.{length, getD, take, drop, length-append, length-drop, drop-of-len
 use lib.Seq.{drop-drop, drop-at, take-at, length-take-le}
 use Rattle.types.specs.declared.Config.{Config}
 use Rattle.types.specs.declared.Step.{Step}
-use Rattle.rules.specs.Conditions.{_and_, within, unless}
+use Rattle.rules.specs.Conditions.{_and_, isWithin, unless}
 use Rattle.rules.specs.Ranges.{configInRange}
 use Rattle.rules.proofs.Laws.{true-of, and-l, and-r, within-low, within-high, unless-ok, cond-case}
 use Rattle.wire.specs.Numbers.{over}
 use Rattle.wire.proofs.Numbers.{number-front}
 use Rattle.script.specs.declared.Header.{Header}
 use Rattle.script.specs.Layout.{stepRefusal, headerOf, recordOf, recordsOf, scriptOf}
-use Rattle.script.specs.Reading.{longest, configIn, isScript, headerIn, recordAt, orElse, recordsRefusal, stepsFrom, verdict, stepsOf}
-use Rattle.script.specs.Writing.{rowAt, rows, stepsIn, stepsRefusal, writeRefusal, written, buffer, flat, canonical}
+use Rattle.script.specs.Reading.{longest, configRead, isScript, headerIn, recordAt, orElse, recordsRefusal, stepsFrom, verdict, stepsOf}
+use Rattle.script.specs.Writing.{rowAt, rows, stepsIn, stepsRefusal, writeRefusal, written, scriptInto, flat, canonical}
 use Rattle.script.proofs.Tests.{test-passed, none-met}
 use Rattle.script.proofs.Walk.{none-from-the-end}
 use Rattle.script.proofs.Fours.{Bytes, Fours, none, more, fours, joined, take-bytes, drop-bytes}
@@ -112,8 +112,8 @@ pub script-length : (c : Config) (rest : List ℕ) → length (headerOf c ++ res
 script-length c rest = rw (length-append, header-length)
 
 module _ (c : Config) (rest : List ℕ) (t : T (configInRange c)) where
-  config-read : configIn (headerOf c ++ rest) ≡ c
-  unfolding configIn headerOf configInRange
+  config-read : configRead (headerOf c ++ rest) ≡ c
+  unfolding configRead headerOf configInRange
   config-read =
       let t₂ = and-r _ _ t in
       let t₃ = and-r _ _ t₂ in
@@ -126,29 +126,29 @@ module _ (c : Config) (rest : List ℕ) (t : T (configInRange c)) where
         number-front (c .clients) (omega (arith, within-high 1 32 (c .clients) (and-l _ _ t₂))) [],
         number-front (c .addresses) (omega (arith, within-high 1 32 (c .addresses) (and-l _ _ t₃))) [],
         number-front (c .skew) (omega (arith, leb→le (c .skew) 1000 (and-l _ _ t₄))) [],
-        number-front (c .silence) (omega (arith, within-high 1 10000 (c .silence) (and-l _ _ t₅))) [],
+        number-front (c .detection) (omega (arith, within-high 1 10000 (c .detection) (and-l _ _ t₅))) [],
         number-front (c .mclt) (omega (arith, within-high 1 1000000 (c .mclt) (and-l _ _ t₆))) [],
-        number-front (c .hold) (omega (arith, leb→le (c .hold) 1000000 t₇)) [],
+        number-front (c .retention) (omega (arith, leb→le (c .retention) 1000000 t₇)) [],
       )
 
   header-read : length (headerOf c ++ rest) ≤ longest → headerIn (headerOf c ++ rest) ≡ record { refusal = 0; config = c }
-  unfolding headerIn headerOf within _and_ unless
+  unfolding headerIn headerOf isWithin _and_ unless
   header-read h =
       let s = headerOf c ++ rest in
       let l : 29 ≤ length s = omega (arith, script-length c rest) in
       rw (le-leb 29 (length s) l, le-leb (length s) longest h, config-read, true-of (configInRange c) t)
 
-config-written : (q rest : List ℕ) → Fours 7 q → headerOf (configIn (1 ∷ q ++ rest)) ≡ 1 ∷ q
-unfolding headerOf configIn
+config-written : (q rest : List ℕ) → Fours 7 q → headerOf (configRead (1 ∷ q ++ rest)) ≡ 1 ∷ q
+unfolding headerOf configRead
 config-written q rest (more a (more b (more c (more d (more e (more f (more g none))))))) =
     joined (joined (joined (joined (joined (joined (joined {a = 1 ∷ []} refl a) b) c) d) e) f) g
 
-front-written : (s : List ℕ) → Bytes s → 29 ≤ length s → getD s 0 0 ≡ 1 → headerOf (configIn s) ≡ take 29 s
+front-written : (s : List ℕ) → Bytes s → 29 ≤ length s → getD s 0 0 ≡ 1 → headerOf (configRead s) ≡ take 29 s
 front-written [] b h e = absurd (omega arith)
 front-written (v ∷ l) b h e =
     let q = take 28 l in
     let f = fours 7 q (length-take-le 28 l (omega arith)) (take-bytes 28 l (drop-bytes 1 (v ∷ l) b)) in
-    rw e (ap (λ (t : List ℕ). headerOf (configIn (1 ∷ t))) (sym (take-append-drop 28 l)) ∙ config-written q (drop 28 l) f)
+    rw e (ap (λ (t : List ℕ). headerOf (configRead (1 ∷ t))) (sym (take-append-drop 28 l)) ∙ config-written q (drop 28 l) f)
 
 -- what the header of an accepted script says
 record HeaderOk (s : List ℕ) (c : Config) : Type 0 where
@@ -157,7 +157,7 @@ record HeaderOk (s : List ℕ) (c : Config) : Type 0 where
   front : headerOf c ≡ take 29 s
 
 module _ (s : List ℕ) (b : Bytes s) (ok : (headerIn s) .refusal ≡ 0) where
-  is-script : T (isScript s) × (headerIn s ≡ record { refusal = unless (configInRange (configIn s)) 2 0; config = configIn s })
+  is-script : T (isScript s) × (headerIn s ≡ record { refusal = unless (configInRange (configRead s)) 2 0; config = configRead s })
   unfolding headerIn
   is-script = test-passed (λ (h : Header). h .refusal) (isScript s) _ _ (omega arith) ok
 
@@ -167,7 +167,7 @@ module _ (s : List ℕ) (b : Bytes s) (ok : (headerIn s) .refusal ≡ 0) where
       let l = within-low 29 longest (length s) w in
       rw (is-script .1)
       (record {
-        in-range = (unless-ok (configInRange (configIn s)) 2 0 (omega arith) (rw (is-script .1) at ok)) .0;
+        in-range = (unless-ok (configInRange (configRead s)) 2 0 (omega arith) (rw (is-script .1) at ok)) .0;
         short = within-high 29 longest (length s) w;
         front = front-written s b l (eqb→eq (getD s 0 0) 1 (and-r _ _ (is-script .0)));
       })
@@ -216,8 +216,8 @@ module _ (c : Config) (ss : List Step) (n : ℕ) where
 
 -- what the writer says that it wrote is in the buffer, and reads the same
 pub buffer-reads : (c : Config) (ss : List Step) (l : List ℕ) → Words ss → (written c ss (length l)) .refusal ≡ 0
-    → Reads (take ((written c ss (length l)) .length) (buffer c ss l)) c (map canonical ss)
-unfolding written buffer
+    → Reads (take ((written c ss (length l)) .length) (scriptInto c ss l)) c (map canonical ss)
+unfolding written scriptInto
 buffer-reads c ss l w e =
     rw (e, take-at (scriptOf c ss) (drop (0 + length (scriptOf c ss)) l) (length (scriptOf c ss)) refl) (write-read c ss (length l) w e)
 
@@ -243,6 +243,6 @@ module _ (s : List ℕ) (b : Bytes s) (e : verdict s ≡ 0) where
   -- so says the writer, of its steps handed over in rows, and so is any buffer that has room for it
   pub buffer-written : (l : List ℕ) → length s ≤ length l
       → (written ((headerIn s) .config) (stepsIn (flat (stepsOf s))) (length l) ≡ record { refusal = 0; length = length s })
-      × (buffer ((headerIn s) .config) (stepsIn (flat (stepsOf s))) l ≡ over l 0 s)
-  unfolding written buffer
+      × (scriptInto ((headerIn s) .config) (stepsIn (flat (stepsOf s))) l ≡ over l 0 s)
+  unfolding written scriptInto
   buffer-written l room = rw (steps-in-flat (stepsOf s), not-refused-again (length l) room, read-write) (refl, refl)

@@ -5,8 +5,9 @@ use Prim.Native.Nat.{ℕ, _+_, _*_}
 use lib.ListN.{take}
 use Rattle.types.specs.declared.Config.{Config}
 use Rattle.types.specs.declared.Step.{Step}
-use Rattle.rules.specs.Steps.{Action, pass, fail, return, notice, discover, request, renew, deliver, lose, cleanup, unknown, action, malformed}
+use Rattle.rules.specs.Steps.{Action, pass, fail, return, notice, discover, request, renew, deliver, lose, cleanup, unknown, actionOf, malformed}
 use Rattle.wire.specs.Numbers.{bytesOf}
+pub use Rattle.rules.specs.Steps.{stepOf}
 
 -- how many fields a step has
 unfoldable pub fieldCount : Action → ℕ
@@ -22,12 +23,9 @@ fieldCount (lose p) = 1
 fieldCount (cleanup k) = 1
 fieldCount unknown = 0
 
-abbrev pub stepOf : ℕ → ℕ → ℕ → ℕ → Step
-stepOf k a b c = record { kind = k; first = a; second = b; third = c }
-
 -- how many fields follow a kind
 unfoldable pub fieldsOf : ℕ → ℕ
-fieldsOf k = fieldCount (action (stepOf k 0 0 0))
+fieldsOf k = fieldCount (actionOf (stepOf k 0 0 0))
 
 -- what the length byte of a record says
 abbrev pub lengthOf : ℕ → ℕ
@@ -35,13 +33,17 @@ lengthOf k = 1 + 4 * fieldsOf k
 
 -- refusals 4 and 5, the ones that a step alone can meet
 abbrev pub stepRefusal : Step → ℕ
-stepRefusal s = malformed (action s) 0
+stepRefusal s = malformed (actionOf s) 0
+
+-- the place of the first record, behind the version byte and the seven numbers
+abbrev pub firstRecord : ℕ
+firstRecord = 29
 
 -- the version byte and the seven numbers
 unfoldable pub headerOf : Config → List ℕ
 headerOf c =
-    (1 ∷ []) ++ bytesOf (c .servers) ++ bytesOf (c .clients) ++ bytesOf (c .addresses) ++ bytesOf (c .skew) ++ bytesOf (c .silence)
-    ++ bytesOf (c .mclt) ++ bytesOf (c .hold)
+    (1 ∷ []) ++ bytesOf (c .servers) ++ bytesOf (c .clients) ++ bytesOf (c .addresses) ++ bytesOf (c .skew) ++ bytesOf (c .detection)
+    ++ bytesOf (c .mclt) ++ bytesOf (c .retention)
 
 -- the record of a step: length byte, kind byte, as many fields as the kind has
 unfoldable pub recordOf : Step → List ℕ

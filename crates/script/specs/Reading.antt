@@ -6,11 +6,11 @@ use lib.Dec.{leb, ltb, eqb}
 use lib.ListN.{length, getD, take, drop}
 use Rattle.types.specs.declared.Config.{Config}
 use Rattle.types.specs.declared.Step.{Step}
-use Rattle.rules.specs.Conditions.{_and_, _or_, within, unless}
+use Rattle.rules.specs.Conditions.{_and_, _or_, isWithin, unless}
 use Rattle.rules.specs.Ranges.{configInRange}
-use Rattle.rules.specs.Steps.{action, isKnown}
+use Rattle.rules.specs.Steps.{actionOf, isKnown}
 use Rattle.wire.specs.Numbers.{numberAt}
-use Rattle.script.specs.Layout.{stepOf, fieldsOf, lengthOf, stepRefusal}
+use Rattle.script.specs.Layout.{stepOf, fieldsOf, lengthOf, stepRefusal, firstRecord}
 use Rattle.script.specs.declared.Header.{Header}
 use Rattle.script.specs.declared.Decoded.{Decoded}
 use Rattle.script.specs.declared.Record.{Record}
@@ -20,29 +20,29 @@ abbrev pub longest : ℕ
 longest = 65536
 
 -- the seven numbers
-unfoldable pub configIn : List ℕ → Config
-configIn s = record {
+unfoldable pub configRead : List ℕ → Config
+configRead s = record {
   servers = numberAt s 1;
   clients = numberAt s 5;
   addresses = numberAt s 9;
   skew = numberAt s 13;
-  silence = numberAt s 17;
+  detection = numberAt s 17;
   mclt = numberAt s 21;
-  hold = numberAt s 25;
+  retention = numberAt s 25;
 }
 
 -- no configuration was read
 abbrev pub noConfig : Config
-noConfig = record { servers = 0; clients = 0; addresses = 0; skew = 0; silence = 0; mclt = 0; hold = 0 }
+noConfig = record { servers = 0; clients = 0; addresses = 0; skew = 0; detection = 0; mclt = 0; retention = 0 }
 
 -- Refusal 1. "The script is shorter than 29 bytes, longer than 65,536, or its first byte is not 1."
 abbrev pub isScript : List ℕ → Bool
-isScript s = within 29 longest (length s) and eqb (getD s 0 0) 1
+isScript s = isWithin firstRecord longest (length s) and eqb (getD s 0 0) 1
 
 -- the header: refusals 1 and 2
 unfoldable pub headerIn : List ℕ → Header
 headerIn s =
-    cond (isScript s) (record { refusal = unless (configInRange (configIn s)) 2 0; config = configIn s })
+    cond (isScript s) (record { refusal = unless (configInRange (configRead s)) 2 0; config = configRead s })
     (record { refusal = 1; config = noConfig })
 
 -- no step was read
@@ -59,11 +59,11 @@ stepIn r = let k = getD r 0 0 in stepOf k (fieldIn r (fieldsOf k) 0) (fieldIn r 
 
 -- Refusal 3, of a record that lies within the script: it has length 0, or a known kind with another length.
 unfoldable pub isFramed : List ℕ → Bool
-isFramed r = ltb 0 (length r) and (not (isKnown (action (stepIn r))) or eqb (length r) (lengthOf (getD r 0 0)))
+isFramed r = ltb 0 (length r) and (not (isKnown (actionOf (stepIn r))) or eqb (length r) (lengthOf (getD r 0 0)))
 
 -- what a record says: refusals 3, 4 and 5, and its step
-unfoldable pub decoded : List ℕ → Decoded
-decoded r = cond (isFramed r) (record { refusal = stepRefusal (stepIn r); step = stepIn r }) (record { refusal = 3; step = noStep })
+unfoldable pub decode : List ℕ → Decoded
+decode r = cond (isFramed r) (record { refusal = stepRefusal (stepIn r); step = stepIn r }) (record { refusal = 3; step = noStep })
 
 -- "that part of the script": the bytes behind the length byte at place p, as many as it says
 abbrev pub part : List ℕ → ℕ → List ℕ
@@ -77,7 +77,7 @@ isWhole s p = ltb p (length s) and ltb (p + getD s p 0) (length s)
 unfoldable pub recordAt : List ℕ → ℕ → Record
 recordAt s p =
     cond (isWhole s p)
-    (record { refusal = (decoded (part s p)) .refusal; step = (decoded (part s p)) .step; next = p + 1 + getD s p 0 })
+    (record { refusal = (decode (part s p)) .refusal; step = (decode (part s p)) .step; next = p + 1 + getD s p 0 })
     (record { refusal = 3; step = noStep; next = length s })
 
 -- n, or m where n is no refusal
@@ -98,8 +98,8 @@ stepsFrom (suc n) s p = cond (leb (length s) p) [] ((recordAt s p) .step ∷ ste
 -- "A script is accepted if reading it through meets none of refusals 1 to 5": the first that it meets, 0 if none.
 -- Each record is a byte or longer, so there are no more records than bytes.
 unfoldable pub verdict : List ℕ → ℕ
-verdict s = orElse ((headerIn s) .refusal) (recordsRefusal (length s) s 29)
+verdict s = orElse ((headerIn s) .refusal) (recordsRefusal (length s) s firstRecord)
 
 -- the steps of a script
 unfoldable pub stepsOf : List ℕ → List Step
-stepsOf s = stepsFrom (length s) s 29
+stepsOf s = stepsFrom (length s) s firstRecord

@@ -50,8 +50,8 @@ unfoldable pub written : Config → List Step → ℕ → Written
 written c ss n = record { refusal = writeRefusal c ss n; length = cond (eqb (writeRefusal c ss n) 0) (length (scriptOf c ss)) 0 }
 
 -- "A refusal leaves the buffer unchanged; otherwise bytes past the script are unchanged."
-unfoldable pub buffer : Config → List Step → List ℕ → List ℕ
-buffer c ss l = cond (eqb (writeRefusal c ss (length l)) 0) (over l 0 (scriptOf c ss)) l
+unfoldable pub scriptInto : Config → List Step → List ℕ → List ℕ
+scriptInto c ss l = cond (eqb (writeRefusal c ss (length l)) 0) (over l 0 (scriptOf c ss)) l
 
 -- a step with 0 in each field that its kind does not have: those have no bytes in a script
 unfoldable pub canonical : Step → Step

@@ -10,8 +10,14 @@ use wire::wide;
 ghost use mathlib.Core.Path.{_≡_};
 ghost use Prim.Native.Nat.{_+_, _*_, _≤_};
 ghost use lib.ListN.{length, getD};
-ghost use Rattle.script.specs.Layout.{fieldsOf, lengthOf, stepRefusal as refusalOf};
-ghost use Rattle.script.specs.Reading.{configIn, noConfig, isScript, headerIn, noStep, fieldIn, stepIn, isFramed, decoded, recordAt, recordsRefusal, verdict as verdictOn};
+ghost use Rattle.script.specs.Layout.{fieldsOf, lengthOf, stepRefusal, firstRecord};
+ghost use Rattle.script.specs.Reading.{configRead, noConfig, isScript, headerIn, noStep, fieldIn, stepIn, isFramed, decode as decode′, recordAt, recordsRefusal, verdict as verdict′};
+
+// The place of the first record, behind the version byte and the seven numbers.
+pub const FIRST_RECORD: usize = 29;
+
+// The length of the longest script.
+pub const LONGEST: usize = 65536;
 
 // What the header says: refusal 0, 1 or 2, and the configuration, all zeros with refusal 1.
 pub struct Header {
@@ -39,18 +45,18 @@ pub struct Written {
 }
 
 // The seven numbers.
-fn config_in(s: &[u8]) -> Config
-    requires { ⌜ 29 ≤ length (now s) ⌝ }
-    ensures { λ c. ⌜ c ≡ configIn (now (s .entry)) ⌝ }
+fn config_read(s: &[u8]) -> Config
+    requires { ⌜ firstRecord ≤ length (now s) ⌝ }
+    ensures { λ c. ⌜ c ≡ configRead (now (s .entry)) ⌝ }
 {
     Config {
         servers: number_at(s, 1),
         clients: number_at(s, 5),
         addresses: number_at(s, 9),
         skew: number_at(s, 13),
-        silence: number_at(s, 17),
+        detection: number_at(s, 17),
         mclt: number_at(s, 21),
-        hold: number_at(s, 25),
+        retention: number_at(s, 25),
     }
 }
 
@@ -62,9 +68,9 @@ fn no_config() -> Config
         clients: 0,
         addresses: 0,
         skew: 0,
-        silence: 0,
+        detection: 0,
         mclt: 0,
-        hold: 0,
+        retention: 0,
     }
 }
 
@@ -72,21 +78,21 @@ fn no_config() -> Config
 fn is_script(s: &[u8]) -> bool
     ensures { λ r. ⌜ r ≡ isScript (now (s .entry)) ⌝ }
 {
-    if s.len() < 29 {
+    if s.len() < FIRST_RECORD {
         return false;
     }
-    if 65536 < s.len() {
+    if LONGEST < s.len() {
         return false;
     }
     s[0] == 1
 }
 
 // The header of a script: refusals 1 and 2.
-pub fn read_header(s: &[u8]) -> Header
+pub fn header_in(s: &[u8]) -> Header
     ensures { λ h. ⌜ h ≡ headerIn (now (s .entry)) ⌝ }
 {
     if is_script(s) {
-        let c = config_in(s);
+        let c = config_read(s);
         let n = if config_in_range(c) { 0 } else { 2 };
         return Header {
             refusal: n,
@@ -101,7 +107,7 @@ pub fn read_header(s: &[u8]) -> Header
 }
 
 // How many fields follow a kind.
-pub fn field_count(kind: u32) -> u32
+pub fn fields_of(kind: u32) -> u32
     ensures { λ n. ⌜ (n ≡ fieldsOf kind) × (n ≤ 3) ⌝ }
 {
     match kind {
@@ -121,7 +127,7 @@ pub fn field_count(kind: u32) -> u32
 
 // Refusals 4 and 5 of a step, 0 if none.
 pub fn step_refusal(s: Step) -> u32
-    ensures { λ n. ⌜ n ≡ refusalOf s ⌝ }
+    ensures { λ n. ⌜ n ≡ stepRefusal s ⌝ }
 {
     malformed(action_of(s))
 }
@@ -143,7 +149,7 @@ fn step_in(r: &[u8]) -> Step
     ensures { λ s. ⌜ s ≡ stepIn (now (r .entry)) ⌝ }
 {
     let kind = wide(r[0]);
-    let n = field_count(kind);
+    let n = fields_of(kind);
     Step {
         kind: kind,
         first: field_in(r, n, 0),
@@ -159,7 +165,7 @@ fn is_framed(r: &[u8]) -> bool
     if r.len() == 0 {
         return false;
     }
-    let n = field_count(wide(r[0]));
+    let n = fields_of(wide(r[0]));
     either(n == 0, r.len() == (1 + 4 * n) as usize)
 }
 
@@ -176,7 +182,7 @@ fn no_step() -> Step
 
 // What a record says.
 pub fn decode(r: &[u8]) -> Decoded
-    ensures { λ d. ⌜ d ≡ decoded (now (r .entry)) ⌝ }
+    ensures { λ d. ⌜ d ≡ decode′ (now (r .entry)) ⌝ }
 {
     if is_framed(r) {
         let s = step_in(r);
@@ -230,9 +236,9 @@ pub fn record_at(s: &[u8], p: usize) -> Record
 
 // The first refusal among the records from place 29 on, 0 if none.
 fn records_refusal(s: &[u8]) -> u32
-    ensures { λ n. ⌜ n ≡ recordsRefusal (length (now (s .entry))) (now (s .entry)) 29 ⌝ }
+    ensures { λ n. ⌜ n ≡ recordsRefusal (length (now (s .entry))) (now (s .entry)) firstRecord ⌝ }
 {
-    let mut p = 29;
+    let mut p = FIRST_RECORD;
     while p < s.len() {
         let r = record_at(s, p);
         if r.refusal != 0 {
@@ -245,9 +251,9 @@ fn records_refusal(s: &[u8]) -> u32
 
 // The first refusal that reading the whole script meets, 0 if it is accepted.
 pub fn verdict(s: &[u8]) -> u32
-    ensures { λ n. ⌜ n ≡ verdictOn (now (s .entry)) ⌝ }
+    ensures { λ n. ⌜ n ≡ verdict′ (now (s .entry)) ⌝ }
 {
-    let h = read_header(s);
+    let h = header_in(s);
     if h.refusal != 0 {
         return h.refusal;
     }

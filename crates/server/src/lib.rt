@@ -1,9 +1,9 @@
 // What is sealed in: a server's notices, return and cleanup, and the messages that it handles.
 // c is the configuration, k the server's number, r its clock reading, s its value. A server knows no facade and no true time.
 use arith::both;
-use leading::leads_after;
+use leading::may_lead;
 use leading::next_server;
-use leading::record_after;
+use leading::raised;
 use lending::drop_reservations;
 use lending::lowest_offerable;
 use lending::on_discover;
@@ -26,15 +26,15 @@ ghost use mathlib.Core.Path.{_≡_};
 ghost use mathlib.Core.Bool.{cond};
 ghost use Prim.Native.Nat.{_≤_, _<_};
 ghost use lib.Dec.{T};
-ghost use Rattle.rules.specs.Ranges.{bodyInRange};
-ghost use Rattle.rules.specs.Messages.{nothing as nothingSent};
-ghost use Rattle.rules.specs.Server.{bindingAnswer, noticed as afterNotice, clearedServer, afterReturn, reservationsBy, freedIfOld, cleaned, isRequest, addressFor, handledAt, serverReceives};
+ghost use Rattle.rules.specs.Ranges.{bodyInRange, lastReading};
+ghost use Rattle.rules.specs.Messages.{nothing as nothing′};
+ghost use Rattle.rules.specs.Server.{bindingAnswer, noticed as noticed′, clearedServer, afterReturn, reservationsBy, freedIfOld, cleaned as cleaned′, isRequest, addressFor, handledAt, serverReceives};
 ghost use Rattle.rules.proofs.Kept.{Configured};
 
 // A notice: server `about` is dead (0) or alive (1). For each address it is decided anew whether the server leads it.
-pub fn notice(c: Config, k: u32, r: u32, s: Server, about: u32, says: u32) -> ServerAnswer
-    requires { ⌜ Configured c × (k < c .servers) × (r ≤ 1000001000) × (about < c .servers) ⌝ }
-    ensures { λ x. ⌜ x ≡ afterNotice c k r s about says ⌝ }
+pub fn noticed(c: Config, k: u32, r: u32, s: Server, about: u32, says: u32) -> ServerAnswer
+    requires { ⌜ Configured c × (k < c .servers) × (r ≤ lastReading) × (about < c .servers) ⌝ }
+    ensures { λ x. ⌜ x ≡ noticed′ c k r s about says ⌝ }
 {
     let mut t = s;
     let mut b = t.believed;
@@ -47,9 +47,9 @@ pub fn notice(c: Config, k: u32, r: u32, s: Server, about: u32, says: u32) -> Se
     while a < n {
         let at = a as usize;
         let before = t.leads[at];
-        let now = leads_after(c, k, r, t.returned, before, b, first);
+        let now = may_lead(c, k, r, t.returned, before, b, first);
         t.leads[at] = now;
-        t.potlease[at] = record_after(c, r, before, now, t.potlease[at]);
+        t.potlease[at] = raised(c, r, before, now, t.potlease[at]);
         first = next_server(c.servers, first);
         a += 1;
     }
@@ -62,7 +62,7 @@ pub fn notice(c: Config, k: u32, r: u32, s: Server, about: u32, says: u32) -> Se
 }
 
 // A server that believes everyone live, with nothing led, reserved, lent or open.
-pub fn cleared(alive: bool, changed: u32, returned: u32, records: [u32; 32]) -> Server
+pub fn cleared_server(alive: bool, changed: u32, returned: u32, records: [u32; 32]) -> Server
     ensures { λ s. ⌜ s ≡ clearedServer alive changed returned records ⌝ }
 {
     let free = Reservation {
@@ -84,7 +84,7 @@ pub fn cleared(alive: bool, changed: u32, returned: u32, records: [u32; 32]) -> 
 
 // The server when it comes back: records survive, and all else of its own is as new.
 // Cleared in a loop, because arrays written out make the compiler take the server apart into many pieces.
-pub fn come_back(r: u32, s: Server) -> ServerAnswer
+pub fn after_return(r: u32, s: Server) -> ServerAnswer
     ensures { λ x. ⌜ x ≡ afterReturn r s ⌝ }
 {
     let mut t = s;
@@ -115,7 +115,7 @@ fn freed_if_old(c: Config, r: u32, x: Reserved) -> Reserved
     match x {
         Reserved::Free => Reserved::Free,
         Reserved::Taken(q, at) => {
-            if (at as u64) + (c.hold as u64) < (r as u64) {
+            if (at as u64) + (c.retention as u64) < (r as u64) {
                 Reserved::Free
             } else {
                 Reserved::Taken(q, at)
@@ -144,9 +144,9 @@ fn drop_old(c: Config, r: u32, rs: [Reservation; 32]) -> [Reservation; 32]
 }
 
 // The server with its old reservations dropped.
-pub fn clean_up(c: Config, r: u32, s: Server) -> ServerAnswer
+pub fn cleaned(c: Config, r: u32, s: Server) -> ServerAnswer
     requires { ⌜ Configured c ⌝ }
-    ensures { λ x. ⌜ x ≡ cleaned c r s ⌝ }
+    ensures { λ x. ⌜ x ≡ cleaned′ c r s ⌝ }
 {
     let rs = s.reserved;
     let kept = drop_old(c, r, rs);
@@ -201,7 +201,7 @@ fn address_for(
 
 // What is kept for an address as it is, with outcome n, and nothing sent.
 fn unmoved(b: Binding, n: u32) -> BindingAnswer
-    ensures { λ x. ⌜ x ≡ bindingAnswer b n nothingSent ⌝ }
+    ensures { λ x. ⌜ x ≡ bindingAnswer b n nothing′ ⌝ }
 {
     let none = nothing();
     BindingAnswer {
@@ -212,7 +212,7 @@ fn unmoved(b: Binding, n: u32) -> BindingAnswer
 }
 
 // A message with this body from party p in interaction q, for address a.
-fn handle(
+fn handled_at(
     c: Config,
     k: u32,
     r: u32,
@@ -222,7 +222,7 @@ fn handle(
     a: u32,
     body: Body,
 ) -> BindingAnswer
-    requires { ⌜ Configured c × (k < c .servers) × (r ≤ 1000001000) × T (bodyInRange c p k body) ⌝ }
+    requires { ⌜ Configured c × (k < c .servers) × (r ≤ lastReading) × T (bodyInRange c p k body) ⌝ }
     ensures { λ x. ⌜ x ≡ handledAt c k r b p q a body ⌝ }
 {
     match body {
@@ -249,19 +249,19 @@ fn handle_alive(
     a: u32,
     body: Body,
 ) -> BindingAnswer
-    requires { ⌜ Configured c × (k < c .servers) × (r ≤ 1000001000) × T (bodyInRange c p k body) ⌝ }
-    ensures { λ x. ⌜ x ≡ cond alive (handledAt c k r b p q a body) (bindingAnswer b 2 nothingSent) ⌝ }
+    requires { ⌜ Configured c × (k < c .servers) × (r ≤ lastReading) × T (bodyInRange c p k body) ⌝ }
+    ensures { λ x. ⌜ x ≡ cond alive (handledAt c k r b p q a body) (bindingAnswer b 2 nothing′) ⌝ }
 {
     if alive {
-        return handle(c, k, r, b, p, q, a, body);
+        return handled_at(c, k, r, b, p, q, a, body);
     }
     unmoved(b, 2)
 }
 
 // A message that comes to the server. What is kept for one address is read out and put back here, since a server that is handed on is
 // copied whole.
-pub fn receive(c: Config, k: u32, r: u32, s: Server, m: Message) -> ServerAnswer
-    requires { ⌜ Configured c × (k < c .servers) × (r ≤ 1000001000) × T (bodyInRange c (m .sender) k (m .body)) ⌝ }
+pub fn server_receives(c: Config, k: u32, r: u32, s: Server, m: Message) -> ServerAnswer
+    requires { ⌜ Configured c × (k < c .servers) × (r ≤ lastReading) × T (bodyInRange c (m .sender) k (m .body)) ⌝ }
     ensures { λ x. ⌜ x ≡ serverReceives c k r s m ⌝ }
 {
     let mut t = s;

@@ -5,13 +5,14 @@ use arith::is_within;
 use arith::magnitude;
 use arith::unless;
 use types::Action;
+use types::LAST_END;
 use types::Step;
 ghost use mathlib.Core.Path.{_≡_};
-ghost use Rattle.rules.specs.Steps.{action, malformed as malformedOr};
+ghost use Rattle.rules.specs.Steps.{actionOf, malformed as malformed′};
 
 // The kind number decides the step; fields follow.
 pub fn action_of(s: Step) -> Action
-    ensures { λ x. ⌜ x ≡ action s ⌝ }
+    ensures { λ x. ⌜ x ≡ actionOf s ⌝ }
 {
     let kind = s.kind;
     match kind {
@@ -31,7 +32,7 @@ pub fn action_of(s: Step) -> Action
 
 // Refusals 4 and 5, 0 if none.
 pub fn malformed(x: Action) -> u32
-    ensures { λ n. ⌜ n ≡ malformedOr x 0 ⌝ }
+    ensures { λ n. ⌜ n ≡ malformed′ x 0 ⌝ }
 {
     match x {
         Action::Pass(d, _, e) => unless(both(is_within(1, 100000, d), magnitude(e) <= 2000), 5, 0),
@@ -39,8 +40,8 @@ pub fn malformed(x: Action) -> u32
         Action::Return(_) => 0,
         Action::Notice(_, _, says) => unless(says <= 1, 5, 0),
         Action::Discover(_) => 0,
-        Action::Request(_, t) => unless(t <= 2000000000, 5, 0),
-        Action::Renew(_, t) => unless(t <= 2000000000, 5, 0),
+        Action::Request(_, t) => unless(t <= LAST_END, 5, 0),
+        Action::Renew(_, t) => unless(t <= LAST_END, 5, 0),
         Action::Deliver(_, keep) => unless(keep <= 1, 5, 0),
         Action::Lose(_) => 0,
         Action::Cleanup(_) => 0,

@@ -29,7 +29,7 @@ use Rattle.rules.specs.Parts.{noServer, noClient, offsetOf}
 use Rattle.rules.specs.Messages.{nothing, sentBehind}
 use Rattle.rules.specs.Ranges.{inRange}
 use Rattle.rules.specs.Views.{atHand}
-use Rattle.rules.specs.Steps.{action, noticesAfter, nextAfter, movedIn, ended, enacted, step}
+use Rattle.rules.specs.Steps.{actionOf, noticesAfter, nextAfter, movedIn, holdsEnded, enacted, step}
 use Rattle.rules.proofs.Kept.{Configured}
 use Rattle.world.specs.Apart.{facadeOf, WorldInRange}
 use Rattle.world.proofs.Laws.{sizes, time-high, waiting-high, offset-high, offset-read}
@@ -77,7 +77,7 @@ pub record Turn (w : World) (ss : List Server) (ys : List Client) (ms : List Mes
   pub m : Message
   pub x : State
   pub hand : Hand w ss ys ms s l m x
-  pub is : d ≡ decided (atHand w l x) m (action s)
+  pub is : d ≡ decided (atHand w l x) m (actionOf s)
 
 module _ {w : World} {ss : List Server} {ys : List Client} {ms : List Message} {s : Step} {d : Decision} (turn : Turn w ss ys ms s d) where
   in-range : T (inRange (facadeOf w ss ys ms))
@@ -130,7 +130,7 @@ module _ {w : World} {ss : List Server} {ys : List Client} {ms : List Message} {
     unfolding DeedInRange
     passed-fits = let r = rw i at ready in (r .0, omega (arith, r .1, c-ok), offset-high (facadeOf w ss ys ms) in-range j (r .1), r .2)
 
-    pub did-pass : {g : World} {zs : List Client} → g ≡ movedIn w k j v → zs ≡ ended (g .config) (g .time) (g .offsets) ys
+    pub did-pass : {g : World} {zs : List Client} → g ≡ movedIn w k j v → zs ≡ holdsEnded (g .config) (g .time) (g .offsets) ys
         → Did w ss ys ms s (d .refusal) (d .taken) g ss zs nothing 0
     did-pass a b =
         let z = kept (λ q. let n : _≡_ {A = ℕ} 0 1 = cc in absurd (omega arith)) in

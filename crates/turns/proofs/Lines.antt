@@ -17,7 +17,7 @@ use Rattle.rules.proofs.Laws.{and-r, cond-case, not-eqb}
 use Rattle.rules.proofs.Kept.{ranged}
 use Rattle.rules.proofs.Ranges.{step-sound}
 use Rattle.rules.proofs.Bounds.{step-refusal-high, step-outcome-high}
-use Rattle.script.specs.Reading.{longest, isFramed, decoded, isWhole, recordAt}
+use Rattle.script.specs.Reading.{longest, isFramed, decode, isWhole, recordAt}
 use Rattle.script.specs.declared.Record.{Record}
 use Rattle.report.specs.Lines.{recordLine, heldLine}
 use Rattle.report.proofs.Laws.{record-line-short, held-line-short}
@@ -35,8 +35,8 @@ unfolding recordAt _and_
 ends-past s p h = rw (le-ltb p (length s) h)
 
 -- a record of no bytes has refusal 3
-has-a-kind : (n : ℕ) (l : List ℕ) → ((decoded (take n l)) .refusal ≡ 3 → ⊥) → 1 ≤ n
-unfolding decoded isFramed _and_
+has-a-kind : (n : ℕ) (l : List ℕ) → ((decode (take n l)) .refusal ≡ 3 → ⊥) → 1 ≤ n
+unfolding decode isFramed _and_
 has-a-kind zero l f = absurd (f refl)
 has-a-kind (suc n) l f = omega arith
 

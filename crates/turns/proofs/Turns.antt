@@ -16,7 +16,7 @@ use Rattle.types.specs.declared.Facade.{Facade}
 use Rattle.types.specs.declared.Answer.{Answer}
 use Rattle.rules.specs.Ranges.{Sound}
 use Rattle.rules.specs.Views.{worldOf}
-use Rattle.rules.specs.Steps.{Action, action, malformed, ended, step, heldAmong}
+use Rattle.rules.specs.Steps.{Action, actionOf, malformed, holdsEnded, step, heldAmong}
 use Rattle.rules.proofs.Laws.{length-filled}
 use Rattle.rules.proofs.Ranges.{step-sound}
 use Rattle.world.specs.Apart.{facadeOf}
@@ -33,12 +33,12 @@ use Rattle.turns.proofs.Owed.{Owed, fits-first, owed-less, owed-none}
 use Rattle.turns.proofs.Lines.{moves-past, ends-with, ends-at, goes-with, goes-to}
 
 -- the clients are as many when holds have ended
-pub as-many-clients : (c : Config) (n : ℕ) (os : List ℤ) (ys : List Client) → length (ended c n os ys) ≡ length ys
-unfolding ended
+pub as-many-clients : (c : Config) (n : ℕ) (os : List ℤ) (ys : List Client) → length (holdsEnded c n os ys) ≡ length ys
+unfolding holdsEnded
 as-many-clients c n os ys = length-filled _ (c .clients) ys
 
 -- the refusal that reading gives a record, unless it is 3, is that of its step
-pub as-read : (s : List ℕ) (p : ℕ) (r : Record) → r ≡ recordAt s p → (r .refusal ≡ 3 → ⊥) → (x : Action) → x ≡ action (r .step) → r .refusal ≡ malformed x 0
+pub as-read : (s : List ℕ) (p : ℕ) (r : Record) → r ≡ recordAt s p → (r .refusal ≡ 3 → ⊥) → (x : Action) → x ≡ actionOf (r .step) → r .refusal ≡ malformed x 0
 as-read s p r e n x a = rw (a, e) (record-refusal s p (rw e at n))
 
 -- a run is under way whether it has ended or not

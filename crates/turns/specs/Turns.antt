@@ -28,7 +28,7 @@ endsAt s p = eqb ((recordAt s p) .refusal) 3
 
 -- the lines that end a run where n clients hold: that of record k, which has refusal 3, unless the script is over; and the last one
 abbrev pub lastLines : Bool → ℕ → ℕ → ℕ → ℕ → List ℕ
-lastLines over k t w n = cond over [] (recordLine k 3 0 t w) ++ heldLine n
+lastLines finished k t w n = cond finished [] (recordLine k 3 0 t w) ++ heldLine n
 
 -- the lines of the n turns from the record at place p on, which is number k: a turn takes one record, and the last turn ends the run
 unfoldable pub linesFrom : ℕ → Facade → List ℕ → ℕ → ℕ → List ℕ
@@ -44,7 +44,7 @@ progressFrom (suc n) f s p k =
     cond (endsAt s p) (before f p k true)
     (progressFrom n ((step f ((recordAt s p) .step)) .facade) s ((recordAt s p) .next) (k + 1))
 
--- the run r of a script of the right length is under way: its facade is in range, and each record before took two bytes or more, from place 29 on
+-- the run r of a script of the right length is under way: its facade is in range, and each record before took two bytes or more, from the first record on
 pub record UnderWay (s : List ℕ) (r : Progress) : Type 0 where
   pub sound : Sound (r .facade)
   pub servers : length (r .facade .servers) ≡ 4

@@ -1,15 +1,15 @@
 // The turns of a run: each record's step, and its line, put into a lent buffer.
-use cable::has_room;
 use cable::message_sent;
+use cable::room_for;
 use cable::span_of;
-use clocks::end_holds;
-use clocks::move_on;
+use client::held_among;
+use clocks::holds_ended;
+use clocks::moved_in;
 use decisions::decided;
 use deeds::asked_in;
 use deeds::next_after;
 use deeds::notices_after;
 use deeds::served_at;
-use facade::held_among;
 use outbox::nothing;
 use report::put_held_line;
 use report::put_record_line;
@@ -29,7 +29,7 @@ ghost use mathlib.Core.Path.{_≡_};
 ghost use mathlib.Core.Bool.{true};
 ghost use Prim.Native.Nat.{_+_, _≤_};
 ghost use lib.ListN.{length};
-ghost use Rattle.wire.specs.Numbers.{over as overAt};
+ghost use Rattle.wire.specs.Numbers.{over};
 ghost use Rattle.rules.specs.Steps.{heldAmong};
 ghost use Rattle.world.specs.Apart.{facadeOf};
 ghost use Rattle.turns.specs.Turns.{before, lastLines, linesFrom, progressFrom, UnderWay};
@@ -80,17 +80,17 @@ fn piece_of(
 fn put_last_lines(
     out: &mut [u8],
     at: usize,
-    over: bool,
+    finished: bool,
     k: u32,
     w: World,
     ys: [Client; 32],
 ) -> usize
     requires { ⌜ (at + 55 ≤ length (now out)) × (k ≤ 99999) × (w .waiting ≤ 128) ⌝ }
-    ensures { λ r. ⌜ r ≡ at + length (lastLines over k (w .time) (w .waiting) (heldAmong (w .config) ys)) ⌝ }
-    ensures { λ _. ⌜ now (out .exit) ≡ overAt (now (out .entry)) at (lastLines over k (w .time) (w .waiting) (heldAmong (w .config) ys)) ⌝ }
+    ensures { λ r. ⌜ r ≡ at + length (lastLines finished k (w .time) (w .waiting) (heldAmong (w .config) ys)) ⌝ }
+    ensures { λ _. ⌜ now (out .exit) ≡ over (now (out .entry)) at (lastLines finished k (w .time) (w .waiting) (heldAmong (w .config) ys)) ⌝ }
 {
     let n = held_among(w.config, ys);
-    if over {
+    if finished {
         return put_held_line(out, at, n);
     }
     let next = put_record_line(out, at, k, 3, 0, w.time, w.waiting);
@@ -101,7 +101,7 @@ fn put_last_lines(
 fn end_run(
     out: &mut [u8],
     at: usize,
-    over: bool,
+    finished: bool,
     w: World,
     ss: [Server; 4],
     ys: [Client; 32],
@@ -110,21 +110,21 @@ fn end_run(
     k: u32,
 ) -> Piece
     requires { ⌜ (at + 55 ≤ length (now out)) × (k ≤ 99999) × (w .waiting ≤ 128) ⌝ }
-    ensures { λ x. ⌜ x ≡ record { progress = before (facadeOf w ss ys ms) p k true; end = at + length (lastLines over k (w .time) (w .waiting) (heldAmong (w .config) ys)) } ⌝ }
-    ensures { λ _. ⌜ now (out .exit) ≡ overAt (now (out .entry)) at (lastLines over k (w .time) (w .waiting) (heldAmong (w .config) ys)) ⌝ }
+    ensures { λ x. ⌜ x ≡ record { progress = before (facadeOf w ss ys ms) p k true; end = at + length (lastLines finished k (w .time) (w .waiting) (heldAmong (w .config) ys)) } ⌝ }
+    ensures { λ _. ⌜ now (out .exit) ≡ over (now (out .entry)) at (lastLines finished k (w .time) (w .waiting) (heldAmong (w .config) ys)) ⌝ }
 {
-    let end = put_last_lines(out, at, over, k, w, ys);
+    let end = put_last_lines(out, at, finished, k, w, ys);
     piece_of(w, ss, ys, ms, p, k, true, end)
 }
 
 // The lines of so many turns of the run r are put from place `start` on. The facade stays apart in locals, what happens is put in
-// there as `facade::step` does, and the messages are exchanged by the two loops of `cable::exchange`, written out here: whatever
+// there as `facade::step` does, and the messages are exchanged by the two loops of `cable::exchanged`, written out here: whatever
 // is handed on is copied, once for each record. In a refused step nothing happens and no message is taken out, so that every
 // record goes the same way to its line.
 pub fn put_turns(s: &[u8], r: Progress, out: &mut [u8], start: usize, most: u32) -> Piece
     requires { ⌜ UnderWay (now s) r × (start + length (linesFrom most (r .facade) (now s) (r .place) (r .number)) + 55 ≤ length (now out)) ⌝ }
     ensures { λ x. ⌜ (x .progress ≡ progressFrom most (r .facade) (now (s .entry)) (r .place) (r .number)) × UnderWay (now (s .entry)) (x .progress) × (x .end ≡ start + length (linesFrom most (r .facade) (now (s .entry)) (r .place) (r .number))) ⌝ }
-    ensures { λ _. ⌜ now (out .exit) ≡ overAt (now (out .entry)) start (linesFrom most (r .facade) (now (s .entry)) (r .place) (r .number)) ⌝ }
+    ensures { λ _. ⌜ now (out .exit) ≡ over (now (out .entry)) start (linesFrom most (r .facade) (now (s .entry)) (r .place) (r .number)) ⌝ }
 {
     let f = r.facade;
     let mut w = world_of(f);
@@ -160,8 +160,8 @@ pub fn put_turns(s: &[u8], r: Progress, out: &mut [u8], start: usize, most: u32)
         match happens {
             Deed::Rests => {}
             Deed::Passes(d, q, e) => {
-                let g = move_on(w, d, q, e);
-                let zs = end_holds(g, ys);
+                let g = moved_in(w, d, q, e);
+                let zs = holds_ended(g, ys);
                 w = g;
                 ys = zs;
             }
@@ -169,7 +169,7 @@ pub fn put_turns(s: &[u8], r: Progress, out: &mut [u8], start: usize, most: u32)
                 let place = j as usize;
                 let x = served_at(w.config, w.time, w.offsets[place], j, ss[place], e);
                 let o = x.outbox;
-                if has_room(w.waiting, taken, o.count) {
+                if room_for(w.waiting, taken, o.count) {
                     let t = x.server;
                     ss[place] = t;
                     let now = notices_after(w, j, e);
@@ -185,7 +185,7 @@ pub fn put_turns(s: &[u8], r: Progress, out: &mut [u8], start: usize, most: u32)
                 let place = i as usize;
                 let x = asked_in(w, i, ys[place], e);
                 let o = x.outbox;
-                if has_room(w.waiting, taken, o.count) {
+                if room_for(w.waiting, taken, o.count) {
                     let z = x.client;
                     ys[place] = z;
                     w.next = next_after(w.next, e);

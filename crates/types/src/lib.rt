@@ -1,6 +1,24 @@
 // The data of document 01, what a step says and does, what the parties answer, and the parts that a facade is taken apart into.
 // A comment names the term of the paper where it differs.
 
+// The last true time.
+pub const LAST_TIME: u32 = 1000000000;
+
+// The last clock reading: a clock is ahead by 1,000 at most.
+pub const LAST_READING: u32 = 1000001000;
+
+// The last end, wanted end τ or record.
+pub const LAST_END: u32 = 2000000000;
+
+// The last interaction number κ used.
+pub const LAST_INTERACTION: u32 = 1000000;
+
+// The number after it, which the next interaction is when none is left.
+pub const AFTER_LAST: u32 = 1000001;
+
+// The most messages that may wait.
+pub const MOST_WAITING: u32 = 128;
+
 // The configuration: how many there are of each, and the four times.
 pub struct Config {
     // S
@@ -12,11 +30,11 @@ pub struct Config {
     // Δ, the most by which a clock is off
     pub skew: u32,
     // ν, the notice bound: the longest time without a notice
-    pub silence: u32,
+    pub detection: u32,
     // μ, the short lease: the maximum client lead time
     pub mclt: u32,
     // θ, the reservation time
-    pub hold: u32,
+    pub retention: u32,
 }
 
 // None, or the interaction κ and the clock reading at which the address was reserved.

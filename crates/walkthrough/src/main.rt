@@ -10,7 +10,7 @@ use types::Facade;
 use types::Step;
 ghost use mathlib.Core.Path.{_≡_};
 ghost use Prim.Native.Nat.{_+_, _*_};
-ghost use Rattle.rules.specs.Steps.{step as stepOf};
+ghost use Rattle.rules.specs.Steps.{step as step′};
 
 // A step in four numbers: kind and fields.
 const EXAMPLE: [u32; 56] = [
@@ -280,7 +280,7 @@ fn print_field(n: u32) {
 
 // Takes a step, prints its line and gives the facade that it returns.
 fn take(f: Facade, number: u64, s: Step) -> Facade
-    ensures { λ r. ⌜ r ≡ (stepOf f s) .facade ⌝ }
+    ensures { λ r. ⌜ r ≡ (step′ f s) .facade ⌝ }
 {
     let x = facade::step(f, s);
     let g = x.facade;
@@ -290,7 +290,7 @@ fn take(f: Facade, number: u64, s: Step) -> Facade
 
 // Takes the steps of a table, from the fresh facade of a configuration.
 fn walk(c: Config, rows: &[u32]) {
-    let x = facade::fresh(c);
+    let x = facade::start(c);
     let mut f = x.facade;
     let count = rows.len() / 4;
     let mut n: usize = 0;
@@ -306,7 +306,7 @@ fn walk(c: Config, rows: &[u32]) {
         f = take(f, n as u64, s);
     }
     io::write_all(STDOUT_FILENO, b"held");
-    print_field(facade::held(f));
+    print_field(facade::held_clients(f));
     io::write_all(STDOUT_FILENO, b"\n");
 }
 
@@ -316,9 +316,9 @@ fn main() {
         clients: 1,
         addresses: 1,
         skew: 0,
-        silence: 5,
+        detection: 5,
         mclt: 4,
-        hold: 10,
+        retention: 10,
     };
     walk(small, &EXAMPLE);
     let two = Config {
@@ -326,9 +326,9 @@ fn main() {
         clients: 2,
         addresses: 1,
         skew: 1,
-        silence: 40,
+        detection: 40,
         mclt: 10,
-        hold: 20,
+        retention: 20,
     };
     walk(two, &FAILOVER);
 }

@@ -12,7 +12,7 @@ use lib.Seq.{getD-append-add, length-take-le}
 use lib.Signed.{ltZ}
 use mir.Syntax.{w32}
 use mir.Val.{SFits}
-use Rattle.rules.specs.Clock.{signed}
+use Rattle.rules.specs.Clock.{asSigned}
 use Rattle.arith.proofs.Signs.{below-zero, not-below}
 use Rattle.wire.specs.Numbers.{numberAt, bytesOf, complement, over}
 
@@ -51,8 +51,8 @@ put-read l i x h fits =
     ∙ number-front x h (drop (i + 4) l)
 
 -- a signed number of 32 bits reads as itself in two's complement
-pub complement-signed : (z : ℤ) → SFits w32 z → signed (complement z) ≡ z
-unfolding signed
+pub complement-signed : (z : ℤ) → SFits w32 z → asSigned (complement z) ≡ z
+unfolding asSigned
 complement-signed (pos n) f = rw (lt-ltb n 2147483648 (omega (arith, f .sfits)))
 complement-signed (negsuc n) f =
     let back : 4294967295 - (4294967295 - n) ≡ n = omega (arith, f .sfits) in

@@ -4,7 +4,7 @@ ghost use mathlib.Core.Path.{_≡_};
 ghost use mathlib.Core.List.{[], _∷_};
 ghost use Prim.Native.Nat.{_+_, _*_, _≤_};
 ghost use lib.ListN.{length};
-ghost use Rattle.wire.specs.Numbers.{numberAt, bytesOf, complement, over};
+ghost use Rattle.wire.specs.Numbers.{numberAt, bytesOf, complement as complement′, over};
 
 // A byte as a number.
 pub fn wide(x: u8) -> u32
@@ -48,8 +48,8 @@ pub fn put_byte(s: &mut [u8], i: usize, x: u8)
 }
 
 // A signed number in two's complement. `arith::as_signed` is the way back.
-pub fn in_complement(e: i32) -> u32
-    ensures { λ r. ⌜ r ≡ complement e ⌝ }
+pub fn complement(e: i32) -> u32
+    ensures { λ r. ⌜ r ≡ complement′ e ⌝ }
 {
     let n = magnitude(e);
     if e < 0 {

@@ -13,7 +13,7 @@ use Rattle.wire.specs.Numbers.{over}
 use Rattle.wire.proofs.Over.{over-then}
 use Rattle.script.specs.declared.Written.{Written}
 use Rattle.script.specs.Layout.{headerOf, recordsOf}
-use Rattle.script.specs.Writing.{stepsRefusal, writeRefusal, written, buffer}
+use Rattle.script.specs.Writing.{stepsRefusal, writeRefusal, written, scriptInto}
 use Rattle.script.proofs.Round.{header-length, script-length, not-refused}
 
 module _ (c : Config) (ss : List Step) (room : ℕ) {size : ℕ} (whole : size ≡ 29 + length (recordsOf ss)) where
@@ -24,8 +24,8 @@ module _ (c : Config) (ss : List Step) (room : ℕ) {size : ℕ} (whole : size �
 
 module _ (c : Config) (ss : List Step) (l : List ℕ) {n : ℕ} (e : n ≡ writeRefusal c ss (length l)) where
   -- a refusal leaves the buffer
-  pub refused : 0 < n → l ≡ buffer c ss l
-  unfolding buffer
+  pub refused : 0 < n → l ≡ scriptInto c ss l
+  unfolding scriptInto
   refused h = rw (← e, ne-eqb n 0 (λ z. omega arith))
 
   module _ (z : n ≡ 0) where
@@ -36,8 +36,8 @@ module _ (c : Config) (ss : List Step) (l : List ℕ) {n : ℕ} (e : n ≡ write
         (a .1, omega (arith, a .3, script-length c (recordsOf ss)))
 
     -- and the buffer gets the script: the records right behind the header
-    pub all-put : {l₁ l₂ : List ℕ} → l₁ ≡ over l 0 (headerOf c) → l₂ ≡ over l₁ 29 (recordsOf ss) → l₂ ≡ buffer c ss l
-    unfolding buffer
+    pub all-put : {l₁ l₂ : List ℕ} → l₁ ≡ over l 0 (headerOf c) → l₂ ≡ over l₁ 29 (recordsOf ss) → l₂ ≡ scriptInto c ss l
+    unfolding scriptInto
     all-put p q =
         let at : 29 ≡ 0 + length (headerOf c) = omega (arith, header-length c) in
         rw (← e, z) (over-then l (headerOf c) (recordsOf ss) 0 29 (omega (arith, has-room .1)) at p q)

@@ -8,8 +8,8 @@ use borrow.Author.Tests.{eqb-false}
 use lib.Dec.{T}
 use lib.ListN.{length}
 use Rattle.types.specs.declared.Step.{Step}
-use Rattle.rules.specs.Conditions.{within}
-use Rattle.rules.specs.Steps.{action, isKnown, malformed}
+use Rattle.rules.specs.Conditions.{isWithin}
+use Rattle.rules.specs.Steps.{actionOf, isKnown, malformed}
 use Rattle.rules.proofs.Laws.{true-of, unless-ok, within-high}
 use Rattle.rules.proofs.Actions.{known-kind}
 use Rattle.wire.specs.Numbers.{bytesOf, over}
@@ -18,9 +18,9 @@ use Rattle.script.specs.Layout.{fieldsOf, stepRefusal, recordOf}
 use Rattle.script.proofs.Laws.{unknown-has-no-fields}
 
 -- a step that is not refused has a kind from 1 to 10
-kind-told : (s : Step) → stepRefusal s ≡ 0 → T (within 1 10 (s .kind))
+kind-told : (s : Step) → stepRefusal s ≡ 0 → T (isWithin 1 10 (s .kind))
 unfolding malformed
-kind-told s e = rw (known-kind s) (unless-ok (isKnown (action s)) 4 _ (omega arith) e .0)
+kind-told s e = rw (known-kind s) (unless-ok (isKnown (actionOf s)) 4 _ (omega arith) e .0)
 
 pub kind-high : (s : Step) → stepRefusal s ≡ 0 → s .kind ≤ 10
 kind-high s e = within-high 1 10 (s .kind) (kind-told s e)
@@ -28,7 +28,7 @@ kind-high s e = within-high 1 10 (s .kind) (kind-told s e)
 pub fields-low : (s : Step) → stepRefusal s ≡ 0 → 1 ≤ fieldsOf (s .kind)
 unfolding malformed
 fields-low s e =
-    let known = true-of (isKnown (action s)) (unless-ok (isKnown (action s)) 4 _ (omega arith) e .0) in
+    let known = true-of (isKnown (actionOf s)) (unless-ok (isKnown (actionOf s)) 4 _ (omega arith) e .0) in
     omega (arith, eqb-false (fieldsOf (s .kind)) 0 (sym (unknown-has-no-fields s) ∙ ap not known))
 
 -- A record by its number n of fields, spelled out.

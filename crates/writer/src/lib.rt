@@ -2,8 +2,9 @@
 use rows::records_length;
 use rows::row_at;
 use rows::write_refusal;
+use script::FIRST_RECORD;
 use script::Written;
-use script::field_count;
+use script::fields_of;
 use types::Config;
 use types::Step;
 use wire::put_byte;
@@ -15,8 +16,8 @@ ghost use Prim.Native.Nat.{_+_, _≤_};
 ghost use lib.Dec.{eqb};
 ghost use lib.ListN.{length};
 ghost use Rattle.wire.specs.Numbers.{bytesOf, over};
-ghost use Rattle.script.specs.Layout.{stepRefusal, headerOf, recordOf, recordsOf};
-ghost use Rattle.script.specs.Writing.{stepsIn, stepsRefusal, written, buffer};
+ghost use Rattle.script.specs.Layout.{stepRefusal, headerOf, recordOf, recordsOf, firstRecord};
+ghost use Rattle.script.specs.Writing.{stepsIn, stepsRefusal, written, scriptInto};
 
 // The answer to a script of that size with refusal n: what is refused has length 0.
 fn answer(n: u32, size: usize) -> Written
@@ -31,7 +32,7 @@ fn answer(n: u32, size: usize) -> Written
 
 // The version byte and the seven numbers.
 fn put_header(out: &mut [u8], c: Config)
-    requires { ⌜ 29 ≤ length (now out) ⌝ }
+    requires { ⌜ firstRecord ≤ length (now out) ⌝ }
     ensures { λ _. ⌜ now (out .exit) ≡ over (now (out .entry)) 0 (headerOf c) ⌝ }
 {
     put_byte(out, 0, 1);
@@ -39,9 +40,9 @@ fn put_header(out: &mut [u8], c: Config)
     put_number(out, 5, c.clients);
     put_number(out, 9, c.addresses);
     put_number(out, 13, c.skew);
-    put_number(out, 17, c.silence);
+    put_number(out, 17, c.detection);
     put_number(out, 21, c.mclt);
-    put_number(out, 25, c.hold);
+    put_number(out, 25, c.retention);
 }
 
 // The length byte, the kind byte and the first field, which each kind has.
@@ -60,7 +61,7 @@ fn put_record(out: &mut [u8], at: usize, s: Step) -> usize
     ensures { λ r. ⌜ r ≡ at + length (recordOf s) ⌝ }
     ensures { λ _. ⌜ now (out .exit) ≡ over (now (out .entry)) at (recordOf s) ⌝ }
 {
-    let n = field_count(s.kind);
+    let n = fields_of(s.kind);
     put_first(out, at, (1 + 4 * n) as u8, s);
     if n == 1 {
         return at + 6;
@@ -75,11 +76,11 @@ fn put_record(out: &mut [u8], at: usize, s: Step) -> usize
 
 // The records of the steps, from place 29 on.
 fn put_records(out: &mut [u8], l: &[u32])
-    requires { ⌜ (stepsRefusal (stepsIn (now l)) ≡ 0) × (29 + length (recordsOf (stepsIn (now l))) ≤ length (now out)) ⌝ }
-    ensures { λ _. ⌜ now (out .exit) ≡ over (now (out .entry)) 29 (recordsOf (stepsIn (now (l .entry)))) ⌝ }
+    requires { ⌜ (stepsRefusal (stepsIn (now l)) ≡ 0) × (firstRecord + length (recordsOf (stepsIn (now l))) ≤ length (now out)) ⌝ }
+    ensures { λ _. ⌜ now (out .exit) ≡ over (now (out .entry)) firstRecord (recordsOf (stepsIn (now (l .entry)))) ⌝ }
 {
     let count = l.len() / 4;
-    let mut at = 29;
+    let mut at = FIRST_RECORD;
     let mut n = 0;
     while n < count {
         let s = row_at(l, n);
@@ -91,9 +92,9 @@ fn put_records(out: &mut [u8], l: &[u32])
 // Writes the script of c and the steps in l, and says how long it is; or a refusal, which leaves the buffer unchanged.
 pub fn write(c: Config, l: &[u32], out: &mut [u8]) -> Written
     ensures { λ w. ⌜ w ≡ written c (stepsIn (now (l .entry))) (length (now (out .entry))) ⌝ }
-    ensures { λ _. ⌜ now (out .exit) ≡ buffer c (stepsIn (now (l .entry))) (now (out .entry)) ⌝ }
+    ensures { λ _. ⌜ now (out .exit) ≡ scriptInto c (stepsIn (now (l .entry))) (now (out .entry)) ⌝ }
 {
-    let size = 29 + records_length(l);
+    let size = FIRST_RECORD + records_length(l);
     let n = write_refusal(c, l, size, out.len());
     let w = answer(n, size);
     if 0 < n {

@@ -16,7 +16,7 @@ ghost use mathlib.Core.Bool.{false};
 ghost use Prim.Native.Nat.{_≤_, _<_};
 ghost use lib.ListN.{getD};
 ghost use Rattle.rules.specs.Conditions.{all};
-ghost use Rattle.rules.specs.Server.{onWrite, matchesWrite, acknowledged, onWriteAck, closed as closedWrite};
+ghost use Rattle.rules.specs.Server.{onWrite, matchesWrite, acknowledged as acknowledged′, onWriteAck, closed as closed′};
 
 pub fn on_write(k: u32, b: Binding, p: u32, q: u32, a: u32, v: u32) -> BindingAnswer
     ensures { λ x. ⌜ x ≡ onWrite k b p q a v ⌝ }
@@ -39,12 +39,12 @@ pub fn on_write(k: u32, b: Binding, p: u32, q: u32, a: u32, v: u32) -> BindingAn
 }
 
 // Whether the open write is that of q and v.
-fn is_match(q: u32, v: u32, x: Pending) -> bool
+fn matches_write(q: u32, v: u32, x: Pending) -> bool
     ensures { λ r. ⌜ r ≡ matchesWrite q v x ⌝ }
 {
     match x {
         Pending::Closed => false,
-        Pending::Open(own, end) => both(q == own, v == end),
+        Pending::Open(stored, end) => both(q == stored, v == end),
     }
 }
 
@@ -65,7 +65,7 @@ fn are_all_in(acked: [bool; 4], n: u32) -> bool
 
 // No open write.
 pub fn closed() -> OpenWrite
-    ensures { λ w. ⌜ w ≡ closedWrite ⌝ }
+    ensures { λ w. ⌜ w ≡ closed′ ⌝ }
 {
     OpenWrite {
         pending: Pending::Closed,
@@ -74,9 +74,9 @@ pub fn closed() -> OpenWrite
 }
 
 // What is kept when the write of q and v has these acks.
-fn acknowledge(c: Config, b: Binding, q: u32, v: u32, acked: [bool; 4]) -> Binding
+fn acknowledged(c: Config, b: Binding, q: u32, v: u32, acked: [bool; 4]) -> Binding
     requires { ⌜ c .servers ≤ 4 ⌝ }
-    ensures { λ x. ⌜ x ≡ acknowledged c b q v acked ⌝ }
+    ensures { λ x. ⌜ x ≡ acknowledged′ c b q v acked ⌝ }
 {
     let mut after = b;
     if are_all_in(acked, c.servers) {
@@ -101,10 +101,10 @@ pub fn on_write_ack(c: Config, b: Binding, p: u32, q: u32, v: u32) -> BindingAns
     let none = nothing();
     let w = b.write;
     let pending = w.pending;
-    if both(b.leads, is_match(q, v, pending)) {
+    if both(b.leads, matches_write(q, v, pending)) {
         let mut acked = w.acked;
         acked[from] = true;
-        let after = acknowledge(c, b, q, v, acked);
+        let after = acknowledged(c, b, q, v, acked);
         return BindingAnswer {
             binding: after,
             outcome: 0,

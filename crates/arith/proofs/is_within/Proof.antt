@@ -1,5 +1,5 @@
 use borrow.Author.Needs.{needs}
-use Rattle.rules.specs.Conditions.{within}
+use Rattle.rules.specs.Conditions.{isWithin}
 use Rattle.arith.proofs.is_within.Statement.{statement}
 use Rattle.arith.proofs.is_within.Tie as tie
 
@@ -7,7 +7,7 @@ both-requires : tie.Need-both-requires
 both-requires c κs = search needs
 
 returns : tie.Need-returns
-unfolding within
+unfolding isWithin
 returns c = c .both .ensures
 
 pub is-within-spec : {M : Type 1} → statement M

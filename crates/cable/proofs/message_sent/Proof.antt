@@ -16,16 +16,16 @@ element-copy-out-result c = search needs
 
 returns : tie.Need-returns
 unfolding messageSent
-returns c = rw (lt-ltb _ _ (c .before .if1 .taken))
+returns c = rw (lt-ltb (c .before .before .args .k) (c .before .before .args .t1 .count) (c .before .if1 .taken))
 
-empty-requires : tie.Need-empty-requires
-empty-requires c κs = search needs
+no-message-requires : tie.Need-no-message-requires
+no-message-requires c κs = search needs
 
 returns-2 : tie.Need-returns-2
 unfolding messageSent
-returns-2 c = rw (le-ltb _ _ (c .before .if1 .left)) (c .empty .ensures)
+returns-2 c = rw (le-ltb (c .before .before .args .k) (c .before .before .args .t1 .count) (c .before .if1 .left)) (c .no-message .ensures)
 
 pub message-sent-spec : {M : Type 1} → statement M
 message-sent-spec =
     tie.close
-    (tie.spec cast-if1 mul-result element-copy-out-result returns empty-requires returns-2)
+    (tie.spec cast-if1 mul-result element-copy-out-result returns no-message-requires returns-2)

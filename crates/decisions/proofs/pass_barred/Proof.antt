@@ -34,14 +34,14 @@ add-if2 c = let start = c .before .before .before in
 returns-2 : tie.Need-returns-2
 returns-2 c = pass-8 (c .before .before .before .before .args .t1) (c .before .before .before .before .args .l) Idle (c .before .before .before .before .args .d) (c .before .before .before .before .args .p) (c .before .before .before .before .args .e) (c .before .if1 .left) (c .if2 .taken)
 
-mul-does-clock-allow : tie.Need-mul-does-clock-allow
-mul-does-clock-allow c = search needs
+mul-offset-allows : tie.Need-mul-offset-allows
+mul-offset-allows c = search needs
 
-element-copy-out-does-clock-allow : tie.Need-element-copy-out-does-clock-allow
-element-copy-out-does-clock-allow c = omega (arith, c .before .if1 .left, sizes _ (c .before .before .before .before .pre .0 .sound .0))
+element-copy-out-offset-allows : tie.Need-element-copy-out-offset-allows
+element-copy-out-offset-allows c = omega (arith, c .before .if1 .left, sizes _ (c .before .before .before .before .pre .0 .sound .0))
 
-does-clock-allow-requires : tie.Need-does-clock-allow-requires
-does-clock-allow-requires c κs =
+offset-allows-requires : tie.Need-offset-allows-requires
+offset-allows-requires c κs =
     let start = c .before .before .before .before .before in
     let fit : SFits w32 (getD (start .args .t1 .offsets) (start .args .p) (pos 0)) = search needs in
     (rw (toZ-ofZ fit) (offset-high _ (start .pre .0 .sound .0) (start .args .p) (c .before .before .if1 .left)), rw (toZ-ofZ (start .fits .e)) ((pass-fields _ _ _ (start .pre .1)) .1))
@@ -50,27 +50,27 @@ returns-3 : tie.Need-returns-3
 returns-3 c =
     let start = c .before .before .before .before .before .before .before in
     let fit : SFits w32 (offsetOf (start .args .t1 .offsets) (start .args .p)) = search needs in
-    pass-9 (start .args .t1) (start .args .l) Idle (start .args .d) (start .args .p) (start .args .e) (c .before .before .before .before .if1 .left) (c .before .before .before .if2 .left) (fails (allows start fit (c .before .does-clock-allow .ensures)) (c .if3 .taken))
+    pass-9 (start .args .t1) (start .args .l) Idle (start .args .d) (start .args .p) (start .args .e) (c .before .before .before .before .if1 .left) (c .before .before .before .if2 .left) (fails (allows start fit (c .before .offset-allows .ensures)) (c .if3 .taken))
 
-add-is-in-touch : tie.Need-add-is-in-touch
-add-is-in-touch c = search needs
+add-are-in-touch : tie.Need-add-are-in-touch
+add-are-in-touch c = search needs
 
-is-in-touch-requires : tie.Need-is-in-touch-requires
-is-in-touch-requires c κs = (sizes _ (c .before .before .before .before .before .before .before .before .before .pre .0 .sound .0)) .servers-high
+are-in-touch-requires : tie.Need-are-in-touch-requires
+are-in-touch-requires c κs = (sizes _ (c .before .before .before .before .before .before .before .before .before .pre .0 .sound .0)) .servers-high
 
 returns-4 : tie.Need-returns-4
 returns-4 c =
     let start = c .before .before .before .before .before .before .before .before .before .before .before in
     let allowed = c .before .before .before .before in
     let fit : SFits w32 (offsetOf (start .args .t1 .offsets) (start .args .p)) = search needs in
-    pass-10 (start .args .t1) (start .args .l) Idle (start .args .d) (start .args .p) (start .args .e) (allowed .before .before .before .before .if1 .left) (allowed .before .before .before .if2 .left) (holds (allows start fit (allowed .before .does-clock-allow .ensures)) (allowed .if3 .left)) (c .before .is-in-touch .result) (c .before .is-in-touch .ensures) (not-true _ (c .if4 .taken))
+    pass-10 (start .args .t1) (start .args .l) Idle (start .args .d) (start .args .p) (start .args .e) (allowed .before .before .before .before .if1 .left) (allowed .before .before .before .if2 .left) (holds (allows start fit (allowed .before .offset-allows .ensures)) (allowed .if3 .left)) (c .before .are-in-touch .result) (c .before .are-in-touch .ensures) (not-true _ (c .if4 .taken))
 
 returns-5 : tie.Need-returns-5
 returns-5 c =
     let start = c .before .before .before .before .before .before .before .before .before .before .before in
     let allowed = c .before .before .before .before in
     let fit : SFits w32 (offsetOf (start .args .t1 .offsets) (start .args .p)) = search needs in
-    pass-kept (start .args .t1) (start .args .l) Idle (start .args .d) (start .args .p) (start .args .e) (allowed .before .before .before .before .if1 .left) (allowed .before .before .before .if2 .left) (holds (allows start fit (allowed .before .does-clock-allow .ensures)) (allowed .if3 .left)) (c .before .is-in-touch .result) (c .before .is-in-touch .ensures) (not-false _ (c .if4 .left))
+    pass-kept (start .args .t1) (start .args .l) Idle (start .args .d) (start .args .p) (start .args .e) (allowed .before .before .before .before .if1 .left) (allowed .before .before .before .if2 .left) (holds (allows start fit (allowed .before .offset-allows .ensures)) (allowed .if3 .left)) (c .before .are-in-touch .result) (c .before .are-in-touch .ensures) (not-false _ (c .if4 .left))
 
 pub pass-barred-spec : {M : Type 1} → statement M
 pass-barred-spec =
@@ -80,11 +80,11 @@ pass-barred-spec =
     returns
     add-if2
     returns-2
-    mul-does-clock-allow
-    element-copy-out-does-clock-allow
-    does-clock-allow-requires
+    mul-offset-allows
+    element-copy-out-offset-allows
+    offset-allows-requires
     returns-3
-    add-is-in-touch
-    is-in-touch-requires
+    add-are-in-touch
+    are-in-touch-requires
     returns-4
     returns-5)

@@ -1,4 +1,5 @@
-use Rattle.rules.specs.Steps.{takes}
+use mathlib.Core.Path.{refl}
+use Rattle.rules.specs.Steps.{takesOut}
 use borrow.Author.Needs.{needs}
 use Rattle.decisions.proofs.takes_out.Statement.{statement}
 use Rattle.decisions.proofs.takes_out.Tie as tie
@@ -37,47 +38,47 @@ enum-told-10 : tie.Need-enum-told-10
 enum-told-10 c = search needs
 
 returns : tie.Need-returns
-unfolding takes
+unfolding takesOut
 returns c = rw (c .enum-told .given .1)
 
 returns-2 : tie.Need-returns-2
-unfolding takes
+unfolding takesOut
 returns-2 c = rw (c .enum-told2 .given .1)
 
 returns-3 : tie.Need-returns-3
-unfolding takes
+unfolding takesOut
 returns-3 c = rw (c .enum-told3 .given .1)
 
 returns-4 : tie.Need-returns-4
-unfolding takes
+unfolding takesOut
 returns-4 c = rw (c .enum-told4 .given .1)
 
 returns-5 : tie.Need-returns-5
-unfolding takes
+unfolding takesOut
 returns-5 c = rw (c .enum-told5 .given .1)
 
 returns-6 : tie.Need-returns-6
-unfolding takes
+unfolding takesOut
 returns-6 c = rw (c .enum-told6 .given .1)
 
 returns-7 : tie.Need-returns-7
-unfolding takes
+unfolding takesOut
 returns-7 c = rw (c .enum-told7 .given .1)
 
 returns-8 : tie.Need-returns-8
-unfolding takes
-returns-8 c = rw (c .before .x .given .1)
+unfolding takesOut
+returns-8 c = rw (c .before .x .given .1) refl
 
 returns-9 : tie.Need-returns-9
-unfolding takes
+unfolding takesOut
 returns-9 c = rw (c .enum-told8 .given .1)
 
 returns-10 : tie.Need-returns-10
-unfolding takes
+unfolding takesOut
 returns-10 c = rw (c .enum-told9 .given .1)
 
 returns-11 : tie.Need-returns-11
-unfolding takes
+unfolding takesOut
 returns-11 c = rw (c .enum-told10 .given .1)
 
 pub takes-out-spec : {M : Type 1} → statement M

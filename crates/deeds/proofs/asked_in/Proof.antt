@@ -18,15 +18,15 @@ add-party c = omega (arith, c .before .before .pre .1, sizes _ (c .before .befor
 cast-party : tie.Need-cast-party
 cast-party c = search needs
 
-mul-reading : tie.Need-mul-reading
-mul-reading c = search needs
+mul-clock-reading : tie.Need-mul-clock-reading
+mul-clock-reading c = search needs
 
-element-copy-out-reading : tie.Need-element-copy-out-reading
+element-copy-out-clock-reading : tie.Need-element-copy-out-clock-reading
 unfolding DeedInRange
-element-copy-out-reading c = omega (arith, c .before .before .pre .1, sizes _ (c .before .before .pre .0 .sound .0))
+element-copy-out-clock-reading c = omega (arith, c .before .before .pre .1, sizes _ (c .before .before .pre .0 .sound .0))
 
-reading-requires : tie.Need-reading-requires
-reading-requires c κs = time-high _ (c .before .before .before .pre .0 .sound .0)
+clock-reading-requires : tie.Need-clock-reading-requires
+clock-reading-requires c κs = time-high _ (c .before .before .before .pre .0 .sound .0)
 
 client-after-requires : tie.Need-client-after-requires
 unfolding DeedInRange
@@ -37,7 +37,7 @@ unfolding DeedInRange
 returns c =
     let a = c .before .before .before .before .before .args in
     let fit : SFits w32 (getD (a .t1 .offsets) (clientParty (a .t1 .config) (a .i)) (pos 0)) = search needs in
-    rw (c .before .reading .ensures, toZ-ofZ fit) at (c .client-after .ensures)
+    rw (c .before .clock-reading .ensures, toZ-ofZ fit) at (c .client-after .ensures)
 
 pub asked-in-spec : {M : Type 1} → statement M
 asked-in-spec =
@@ -45,8 +45,8 @@ asked-in-spec =
     (tie.spec
     add-party
     cast-party
-    mul-reading
-    element-copy-out-reading
-    reading-requires
+    mul-clock-reading
+    element-copy-out-clock-reading
+    clock-reading-requires
     client-after-requires
     returns)

@@ -6,55 +6,55 @@ use Rattle.deeds.proofs.client_after.Tie as tie
 enum-told : tie.Need-enum-told
 enum-told c = search needs
 
-discover-requires : tie.Need-discover-requires
-discover-requires c κs = search needs
+discovers-requires : tie.Need-discovers-requires
+discovers-requires c κs = search needs
 
 enum-known-e : tie.Need-enum-known-e
 enum-known-e c = search needs
 
-request-requires : tie.Need-request-requires
-request-requires c κs = search needs
+requests-requires : tie.Need-requests-requires
+requests-requires c κs = search needs
 
 enum-known-e-2 : tie.Need-enum-known-e-2
 enum-known-e-2 c = search needs
 
-renew-requires : tie.Need-renew-requires
-renew-requires c κs = search needs
+renews-requires : tie.Need-renews-requires
+renews-requires c κs = search needs
 
 enum-known-e-3 : tie.Need-enum-known-e-3
 enum-known-e-3 c = search needs
 
-receive-requires : tie.Need-receive-requires
-receive-requires c κs = search needs
+client-receives-requires : tie.Need-client-receives-requires
+client-receives-requires c κs = search needs
 
 returns : tie.Need-returns
 unfolding clientAfter
-returns c = rw (c .before .enum-told .given .1) (c .discover .ensures)
+returns c = rw (c .before .enum-told .given .1) (c .discovers .ensures)
 
 returns-2 : tie.Need-returns-2
 unfolding clientAfter
-returns-2 c = rw (c .before .before .e .given .1) (c .request .ensures)
+returns-2 c = rw (c .before .before .e .given .1) (c .requests .ensures)
 
 returns-3 : tie.Need-returns-3
 unfolding clientAfter
-returns-3 c = rw (c .before .before .e2 .given .1) (c .renew .ensures)
+returns-3 c = rw (c .before .before .e2 .given .1) (c .renews .ensures)
 
 returns-4 : tie.Need-returns-4
 unfolding clientAfter
-returns-4 c = rw (c .before .before .e3 .given .1) (c .receive .ensures)
+returns-4 c = rw (c .before .before .e3 .given .1) (c .client-receives .ensures)
 
 pub client-after-spec : {M : Type 1} → statement M
 client-after-spec =
     tie.close
     (tie.spec
     enum-told
-    discover-requires
+    discovers-requires
     enum-known-e
-    request-requires
+    requests-requires
     enum-known-e-2
-    renew-requires
+    renews-requires
     enum-known-e-3
-    receive-requires
+    client-receives-requires
     returns
     returns-2
     returns-3

@@ -15,15 +15,15 @@ returns-2 c = no-facade _ _ (c .before .if1 .left) (c .if2 .taken)
 config-in-requires : tie.Need-config-in-requires
 config-in-requires c κs = search needs
 
-fresh-requires : tie.Need-fresh-requires
-fresh-requires c κs = search needs
+start-requires : tie.Need-start-requires
+start-requires c κs = search needs
 
 returns-3 : tie.Need-returns-3
 returns-3 c =
     let b = c .before .before in
     let d = b .before .before in
     let a = d .before .before .before .before .args in
-    let e = b .fresh .ensures ∙ ap start (b .before .config-in .ensures) in
+    let e = b .start .ensures ∙ ap start (b .before .config-in .ensures) in
     fresh-refused (now (a .config)) (now (a .facade)) (d .before .if1 .left) (d .if2 .left) e (c .if3 .taken)
 
 put-facade-requires : tie.Need-put-facade-requires
@@ -38,7 +38,7 @@ returns-4 c =
     let b = p .before .before .before .before .before in
     let d = b .before .before in
     let a = d .before .before .before .before .args in
-    let e = b .fresh .ensures ∙ ap start (b .before .config-in .ensures) in
+    let e = b .start .ensures ∙ ap start (b .before .config-in .ensures) in
     let put = p .put-facade .ensures in
     fresh-put (now (a .config)) (now (a .facade)) (d .before .if1 .left) (d .if2 .left) e (p .before .before .before .if3 .left) (put .0) (put .1)
 
@@ -49,7 +49,7 @@ hoyllaqe-fresh-spec =
     returns
     returns-2
     config-in-requires
-    fresh-requires
+    start-requires
     returns-3
     put-facade-requires
     same-length

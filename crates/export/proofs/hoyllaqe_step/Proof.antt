@@ -10,19 +10,19 @@ use Rattle.export.proofs.Laws.{codes-nothing, its-length, step-refused,
 use Rattle.export.proofs.hoyllaqe_step.Statement.{statement}
 use Rattle.export.proofs.hoyllaqe_step.Tie as tie
 
-is-facade-requires : tie.Need-is-facade-requires
-is-facade-requires c κs = search needs
+codes-facade-requires : tie.Need-codes-facade-requires
+codes-facade-requires c κs = search needs
 
 same-length : tie.Need-same-length
 same-length c = search needs
 
 returns : tie.Need-returns
-returns c = codes-nothing _ _ (sym (c .before .is-facade .ensures) ∙ not-true _ (c .if1 .taken))
+returns c = codes-nothing _ _ (sym (c .before .codes-facade .ensures) ∙ not-true _ (c .if1 .taken))
 
 facade-in-requires : tie.Need-facade-in-requires
 facade-in-requires c κs =
     let a = c .before .before .before .before .before .args in
-    its-length (now (a .facade)) (sym (c .before .before .is-facade .ensures) ∙ not-false _ (c .before .if1 .left))
+    its-length (now (a .facade)) (sym (c .before .before .codes-facade .ensures) ∙ not-false _ (c .before .if1 .left))
 
 step-requires : tie.Need-step-requires
 step-requires c κs = search needs
@@ -35,7 +35,7 @@ returns-2 c =
     let x = c .before .before in
     let d = x .before .before .before in
     let a = d .before .before .before .before .args in
-    let coded = sym (d .before .is-facade .ensures) ∙ not-false _ (d .if1 .left) in
+    let coded = sym (d .before .codes-facade .ensures) ∙ not-false _ (d .if1 .left) in
     let s : Step = record { kind = a .kind; first = a .first; second = a .second; third = a .third } in
     let e = x .step .ensures ∙ ap (λ (f : Facade). step f s) (x .before .facade-in .ensures) in
     step-refused (now (a .facade)) s coded e (c .if2 .taken)
@@ -44,7 +44,7 @@ put-facade-requires : tie.Need-put-facade-requires
 put-facade-requires c κs =
     let d = c .before .before .before .before .before .before .before in
     let a = d .before .before .before .before .args in
-    omega (arith, its-length (now (a .facade)) (sym (d .before .is-facade .ensures) ∙ not-false _ (d .if1 .left)))
+    omega (arith, its-length (now (a .facade)) (sym (d .before .codes-facade .ensures) ∙ not-false _ (d .if1 .left)))
 
 same-length-3 : tie.Need-same-length-3
 same-length-3 c = search needs
@@ -55,7 +55,7 @@ returns-3 c =
     let x = p .before .before .before .before .before in
     let d = x .before .before .before in
     let a = d .before .before .before .before .args in
-    let coded = sym (d .before .is-facade .ensures) ∙ not-false _ (d .if1 .left) in
+    let coded = sym (d .before .codes-facade .ensures) ∙ not-false _ (d .if1 .left) in
     let s : Step = record { kind = a .kind; first = a .first; second = a .second; third = a .third } in
     let e = x .step .ensures ∙ ap (λ (f : Facade). step f s) (x .before .facade-in .ensures) in
     let put = p .put-facade .ensures in
@@ -65,7 +65,7 @@ pub hoyllaqe-step-spec : {M : Type 1} → statement M
 hoyllaqe-step-spec =
     tie.close
     (tie.spec
-    is-facade-requires
+    codes-facade-requires
     same-length
     returns
     facade-in-requires

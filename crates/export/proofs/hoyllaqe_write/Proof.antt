@@ -3,7 +3,7 @@ use denote.Ref.{now}
 use borrow.Author.Needs.{needs}
 use lib.ListN.{length}
 use Rattle.types.specs.declared.Config.{Config}
-use Rattle.script.specs.Writing.{stepsIn, written, buffer}
+use Rattle.script.specs.Writing.{stepsIn, written, scriptInto}
 use Rattle.export.proofs.Laws.{no-config-written, no-steps-written, write-refused, write-put}
 use Rattle.export.proofs.hoyllaqe_write.Statement.{statement}
 use Rattle.export.proofs.hoyllaqe_write.Tie as tie
@@ -31,7 +31,7 @@ returns-3 c =
     let a = d .before .before .before .before .before .args in
     let of = i .config-in .ensures in
     let e = w .write .ensures .0 ∙ ap (λ (x : Config). written x (stepsIn (now (a .steps))) (length (now (a .script)))) of in
-    let p = w .write .ensures .1 ∙ ap (λ (x : Config). buffer x (stepsIn (now (a .steps))) (now (a .script))) of in
+    let p = w .write .ensures .1 ∙ ap (λ (x : Config). scriptInto x (stepsIn (now (a .steps))) (now (a .script))) of in
     write-refused (now (a .config)) (now (a .steps)) (now (a .script)) (d .before .if1 .left) (d .if2 .left) e p (c .if3 .taken)
 
 same-length-2 : tie.Need-same-length-2
@@ -45,7 +45,7 @@ returns-4 c =
     let a = d .before .before .before .before .before .args in
     let of = i .config-in .ensures in
     let e = w .write .ensures .0 ∙ ap (λ (x : Config). written x (stepsIn (now (a .steps))) (length (now (a .script)))) of in
-    let p = w .write .ensures .1 ∙ ap (λ (x : Config). buffer x (stepsIn (now (a .steps))) (now (a .script))) of in
+    let p = w .write .ensures .1 ∙ ap (λ (x : Config). scriptInto x (stepsIn (now (a .steps))) (now (a .script))) of in
     write-put (now (a .config)) (now (a .steps)) (now (a .script)) (d .before .if1 .left) (d .if2 .left) e p (c .if3 .left)
 
 pub hoyllaqe-write-spec : {M : Type 1} → statement M

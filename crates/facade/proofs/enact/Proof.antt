@@ -28,25 +28,25 @@ settle-requires c κs =
 enum-known-happens : tie.Need-enum-known-happens
 enum-known-happens c = search needs
 
-move-on-requires : tie.Need-move-on-requires
+moved-in-requires : tie.Need-moved-in-requires
 unfolding DeedInRange
-move-on-requires c κs =
+moved-in-requires c κs =
     let start = c .before .before .before .before .before .before .before in
     let d = rw (c .before .happens .given .1) at (start .pre .1) in
     let fit : SFits w32 (c .before .happens .given .0 .1 .1 .0) = search needs in
     rw (c .before .before .before .before .before .before .world-of .ensures, toZ-ofZ fit) (d .0, omega (arith, d .1, sizes _ (start .pre .0)), offset-high _ (start .pre .0) _ (d .1), d .2)
 
-end-holds-requires : tie.Need-end-holds-requires
+holds-ended-requires : tie.Need-holds-ended-requires
 unfolding DeedInRange
-end-holds-requires c κs =
+holds-ended-requires c κs =
     let start = c .before .before .before .before .before .before .before .before in
     let d = rw (c .before .before .happens .given .1) at (start .pre .1) in
-    rw (c .move-on .ensures, c .before .before .before .before .before .before .before .world-of .ensures) (sizes _ (start .pre .0), d .0)
+    rw (c .moved-in .ensures, c .before .before .before .before .before .before .before .world-of .ensures) (sizes _ (start .pre .0), d .0)
 
 settle-requires-2 : tie.Need-settle-requires-2
 settle-requires-2 c κs =
     let start = c .before .before .before .before .before .before .before .before .before in
-    (waiting-high _ (start .pre .0), rw (c .before .move-on .ensures, c .before .before .before .before .before .before .before .before .world-of .ensures) refl, rw (c .before .before .before .before .before .nothing .ensures) (omega arith), start .pre .2)
+    (waiting-high _ (start .pre .0), rw (c .before .moved-in .ensures, c .before .before .before .before .before .before .before .before .world-of .ensures) refl, rw (c .before .before .before .before .before .nothing .ensures) (omega arith), start .pre .2)
 
 enum-known-happens-2 : tie.Need-enum-known-happens-2
 enum-known-happens-2 c = search needs
@@ -74,8 +74,8 @@ returns-2 c =
     let f = start .args .f in
     let happens = c .before .before .before .before .happens .given in
     let fit : SFits w32 (happens .0 .1 .1 .0) = search needs in
-    let moved = rw (c .before .before .before .before .before .before .before .before .before .world-of .ensures, toZ-ofZ fit) at (c .before .before .move-on .ensures) in
-    rw (happens .1, passes-is (worldOf f) (f .servers) (f .clients) (f .messages) (start .args .p) (start .args .taken) _ _ _ moved (c .before .end-holds .ensures)) (rw (c .before .before .before .before .before .before .nothing .ensures) at (c .settle2 .ensures))
+    let moved = rw (c .before .before .before .before .before .before .before .before .before .world-of .ensures, toZ-ofZ fit) at (c .before .before .moved-in .ensures) in
+    rw (happens .1, passes-is (worldOf f) (f .servers) (f .clients) (f .messages) (start .args .p) (start .args .taken) _ _ _ moved (c .before .holds-ended .ensures)) (rw (c .before .before .before .before .before .before .nothing .ensures) at (c .settle2 .ensures))
 
 returns-3 : tie.Need-returns-3
 returns-3 c = rw (c .before .before .happens2 .given .1) (c .serve .ensures)
@@ -92,8 +92,8 @@ enact-spec =
     enum-told
     settle-requires
     enum-known-happens
-    move-on-requires
-    end-holds-requires
+    moved-in-requires
+    holds-ended-requires
     settle-requires-2
     enum-known-happens-2
     serve-requires

@@ -28,12 +28,12 @@ read : (c : tie.Start) → toZ w32 (ofZ w32 (getD (c .args .f .offsets) (c .args
 unfolding DeedInRange
 read c = offset-read _ (c .pre .0) (c .args .k) (omega (arith, c .pre .1 .0))
 
-mul-own : tie.Need-mul-own
-mul-own c = search needs
+mul-s : tie.Need-mul-s
+mul-s c = search needs
 
-array-copy-out-own : tie.Need-array-copy-out-own
+array-copy-out-s : tie.Need-array-copy-out-s
 unfolding DeedInRange
-array-copy-out-own c = omega (arith, c .before .pre .1 .0, sizes _ (c .before .pre .0))
+array-copy-out-s c = omega (arith, c .before .pre .1 .0, sizes _ (c .before .pre .0))
 
 world-of-requires : tie.Need-world-of-requires
 world-of-requires c κs = search needs
@@ -79,8 +79,8 @@ pub serve-spec : {M : Type 1} → statement M
 serve-spec =
     tie.close
     (tie.spec
-    mul-own
-    array-copy-out-own
+    mul-s
+    array-copy-out-s
     world-of-requires
     mul-served-at
     element-copy-out-served-at

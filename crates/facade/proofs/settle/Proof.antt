@@ -6,11 +6,11 @@ use borrow.Author.Needs.{needs}
 use Rattle.facade.proofs.settle.Statement.{statement}
 use Rattle.facade.proofs.settle.Tie as tie
 
-has-room-requires : tie.Need-has-room-requires
-has-room-requires c κs = (c .pre .0, c .pre .2, λ t. omega (arith, c .pre .3 t))
+room-for-requires : tie.Need-room-for-requires
+room-for-requires c κs = (c .pre .0, c .pre .2, λ t. omega (arith, c .pre .3 t))
 
-exchange-requires : tie.Need-exchange-requires
-exchange-requires c κs = let start = c .before .before .before in
+exchanged-requires : tie.Need-exchanged-requires
+exchanged-requires c κs = let start = c .before .before .before in
     (start .pre .0, start .pre .2, start .pre .3)
 
 rest-of-requires : tie.Need-rest-of-requires
@@ -25,25 +25,25 @@ facade-of-requires c κs = search needs
 returns : tie.Need-returns
 returns c =
     let start = c .before .before .before .before .before .before .before in
-    settles (start .args .f) (start .args .w) (start .args .ss) (start .args .ys) (start .args .p) (start .args .taken) (start .args .sent) (start .args .outcome) (start .pre .1) (c .before .before .before .before .before .before .has-room .ensures) (c .before .before .before .before .before .if1 .taken) (c .before .before .rest-of .ensures) (rw (← c .before .before .before .exchange .ensures) (c .facade-of .ensures))
+    settles (start .args .f) (start .args .w) (start .args .ss) (start .args .ys) (start .args .p) (start .args .taken) (start .args .sent) (start .args .outcome) (start .pre .1) (c .before .before .before .before .before .before .room-for .ensures) (c .before .before .before .before .before .if1 .taken) (c .before .before .rest-of .ensures) (rw (← c .before .before .before .exchanged .ensures) (c .facade-of .ensures))
 
-refuse-requires : tie.Need-refuse-requires
-refuse-requires c κs = search needs
+refused-requires : tie.Need-refused-requires
+refused-requires c κs = search needs
 
 returns-2 : tie.Need-returns-2
 returns-2 c =
     let start = c .before .before .before in
-    c .refuse .ensures ∙ settles-full (start .args .f) (start .args .w) (start .args .ss) (start .args .ys) (start .args .p) (start .args .taken) (start .args .sent) (start .args .outcome) (start .pre .1) (c .before .before .has-room .ensures) (c .before .if1 .left)
+    c .refused .ensures ∙ settles-full (start .args .f) (start .args .w) (start .args .ss) (start .args .ys) (start .args .p) (start .args .taken) (start .args .sent) (start .args .outcome) (start .pre .1) (c .before .before .room-for .ensures) (c .before .if1 .left)
 
 pub settle-spec : {M : Type 1} → statement M
 settle-spec =
     tie.close
     (tie.spec
-    has-room-requires
-    exchange-requires
+    room-for-requires
+    exchanged-requires
     rest-of-requires
     add-g
     facade-of-requires
     returns
-    refuse-requires
+    refused-requires
     returns-2)

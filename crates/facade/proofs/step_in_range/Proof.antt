@@ -5,7 +5,7 @@ use lib.ListN.{length, getD}
 use Rattle.outbox.proofs.Laws.{length-mapped}
 use Rattle.rules.specs.Parts.{noClient, noMessage}
 use Rattle.rules.specs.Views.{worldOf, atHand}
-use Rattle.rules.specs.Steps.{action}
+use Rattle.rules.specs.Steps.{actionOf}
 use Rattle.world.proofs.Laws.{place-low}
 use Rattle.decisions.specs.Decided.{decided}
 use Rattle.facade.proofs.Laws.{Hand, decided-fits, decided-there, is-refused-so, is-done-so}
@@ -31,7 +31,7 @@ hand c =
 
 -- what is decided
 decided-is : (c : tie.After-decided)
-    → c .decided .result ≡ decided (atHand (worldOf (c .before .before .before .before .before .before .before .before .before .before .args .t1)) (c .before .lives-of .result) ((getD (c .before .before .before .before .before .before .before .before .before .before .args .t1 .clients) (c .before .before .before .before .before .before .place-below2 .result) noClient) .state)) (getD (c .before .before .before .before .before .before .before .before .before .before .args .t1 .messages) (c .before .before .before .before .before .before .before .before .place-below .result) noMessage) (action (c .before .before .before .before .before .before .before .before .before .before .args .s))
+    → c .decided .result ≡ decided (atHand (worldOf (c .before .before .before .before .before .before .before .before .before .before .args .t1)) (c .before .lives-of .result) ((getD (c .before .before .before .before .before .before .before .before .before .before .args .t1 .clients) (c .before .before .before .before .before .before .place-below2 .result) noClient) .state)) (getD (c .before .before .before .before .before .before .before .before .before .before .args .t1 .messages) (c .before .before .before .before .before .before .before .before .place-below .result) noMessage) (actionOf (c .before .before .before .before .before .before .before .before .before .before .args .s))
 decided-is c = rw (← c .before .before .world-of .ensures, ← c .before .before .before .before .before .before .before .before .before .action-of .ensures) (c .decided .ensures)
 
 action-of-requires : tie.Need-action-of-requires
@@ -70,11 +70,11 @@ decided-requires c κs =
     let f = start .args .t1 in
     (record { servers = f .servers; clients = f .clients; messages = f .messages; sound = rw (c .before .world-of .ensures) (start .pre, long start) }, c .before .before .malformed .ensures)
 
-refuse-requires : tie.Need-refuse-requires
-refuse-requires c κs = search needs
+refused-requires : tie.Need-refused-requires
+refused-requires c κs = search needs
 
 returns : tie.Need-returns
-returns c = c .refuse .ensures ∙ is-refused-so (hand (c .before .before .before .before)) (decided-is (c .before .before .before)) (c .before .if1 .taken)
+returns c = c .refused .ensures ∙ is-refused-so (hand (c .before .before .before .before)) (decided-is (c .before .before .before)) (c .before .if1 .taken)
 
 enact-requires : tie.Need-enact-requires
 enact-requires c κs = (c .before .before .before .before .before .before .before .before .before .before .before .before .pre, decided-fits (hand (c .before .before .before)) (decided-is (c .before .before)), decided-there (hand (c .before .before .before)) (decided-is (c .before .before)))
@@ -97,7 +97,7 @@ step-in-range-spec =
     world-of-requires
     lives-of-requires
     decided-requires
-    refuse-requires
+    refused-requires
     returns
     enact-requires
     returns-2)

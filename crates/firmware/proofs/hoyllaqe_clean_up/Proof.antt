@@ -8,7 +8,7 @@ use Rattle.types.specs.declared.Config.{Config}
 use Rattle.types.specs.declared.Server.{Server}
 use Rattle.device.specs.declared.ServerReply.{ServerReply}
 use Rattle.device.specs.Device.{deviceCleaned}
-use Rattle.firmware.specs.Firmware.{serverLeft, codesServer, cleanupLeft}
+use Rattle.firmware.specs.Firmware.{serverLeft, areServerLists, cleanUpLeft}
 use Rattle.firmware.proofs.Laws.{server-lengths, codes-nothing, reads, replied}
 use Rattle.firmware.proofs.hoyllaqe_clean_up.Statement.{statement}
 use Rattle.firmware.proofs.hoyllaqe_clean_up.Tie as tie
@@ -17,11 +17,11 @@ abbrev start : tie.Else1 → tie.Start
 start c = c .before .before .before .before .before .before .before
 
 -- the lists code what they stand for
-told : (c : tie.Else1) → codesServer (now (start c .args .config)) (now (start c .args .server)) (now (start c .args .sent)) ≡ true
-told c = sym (c .before .codes-server .ensures) ∙ not-false _ (c .if1 .left)
+told : (c : tie.Else1) → areServerLists (now (start c .args .config)) (now (start c .args .server)) (now (start c .args .sent)) ≡ true
+told c = sym (c .before .are-server-lists .ensures) ∙ not-false _ (c .if1 .left)
 
-codes-server-requires : tie.Need-codes-server-requires
-codes-server-requires c κs = search needs
+are-server-lists-requires : tie.Need-are-server-lists-requires
+are-server-lists-requires c κs = search needs
 
 same-length : tie.Need-same-length
 same-length c = search needs
@@ -30,8 +30,8 @@ same-length-2 : tie.Need-same-length-2
 same-length-2 c = search needs
 
 returns : tie.Need-returns
-unfolding cleanupLeft
-returns c = codes-nothing _ _ _ _ _ _ _ (sym (c .before .codes-server .ensures) ∙ not-true _ (c .if1 .taken))
+unfolding cleanUpLeft
+returns c = codes-nothing _ _ _ _ _ _ _ (sym (c .before .are-server-lists .ensures) ∙ not-true _ (c .if1 .taken))
 
 config-in-requires : tie.Need-config-in-requires
 config-in-requires c κs = omega (arith, server-lengths _ _ _ (told c) .0)
@@ -39,8 +39,8 @@ config-in-requires c κs = omega (arith, server-lengths _ _ _ (told c) .0)
 server-in-requires : tie.Need-server-in-requires
 server-in-requires c κs = omega (arith, server-lengths _ _ _ (told (c .before .before)) .2)
 
-clean-up-requires : tie.Need-clean-up-requires
-clean-up-requires c κs = search needs
+device-cleaned-requires : tie.Need-device-cleaned-requires
+device-cleaned-requires c κs = search needs
 
 put-server-reply-requires : tie.Need-put-server-reply-requires
 put-server-reply-requires c κs =
@@ -54,7 +54,7 @@ same-length-4 : tie.Need-same-length-4
 same-length-4 c = search needs
 
 returns-2 : tie.Need-returns-2
-unfolding cleanupLeft
+unfolding cleanUpLeft
 returns-2 c =
     let p = c .before .before .before .before in
     let x = p .before .before .before .before in
@@ -62,20 +62,20 @@ returns-2 c =
     let a = start (g .before) .args in
     replied (λ (b : Bool) (z : ServerReply). serverLeft b z (now (a .server)) (now (a .sent))) _ _ (told (g .before))
     (reads (λ (f : Config) (s : Server). deviceCleaned f (a .number) (a .reading) s)
-    (g .config-in .ensures) (x .before .server-in .ensures) (x .clean-up .ensures))
+    (g .config-in .ensures) (x .before .server-in .ensures) (x .device-cleaned .ensures))
     (p .put-server-reply .ensures)
 
 pub hoyllaqe-clean-up-spec : {M : Type 1} → statement M
 hoyllaqe-clean-up-spec =
     tie.close
     (tie.spec
-    codes-server-requires
+    are-server-lists-requires
     same-length
     same-length-2
     returns
     config-in-requires
     server-in-requires
-    clean-up-requires
+    device-cleaned-requires
     put-server-reply-requires
     same-length-3
     same-length-4

@@ -8,7 +8,7 @@ use Rattle.types.specs.declared.Config.{Config}
 use Rattle.types.specs.declared.Client.{Client}
 use Rattle.device.specs.declared.ClientReply.{ClientReply}
 use Rattle.device.specs.Device.{deviceLapses}
-use Rattle.firmware.specs.Firmware.{clientLeft, codesClient, lapseLeft}
+use Rattle.firmware.specs.Firmware.{clientLeft, areClientLists, passTimeLeft}
 use Rattle.firmware.proofs.Laws.{client-lengths, codes-nothing, reads, replied}
 use Rattle.firmware.proofs.hoyllaqe_pass_time.Statement.{statement}
 use Rattle.firmware.proofs.hoyllaqe_pass_time.Tie as tie
@@ -17,11 +17,11 @@ abbrev start : tie.Else1 → tie.Start
 start c = c .before .before .before .before .before .before .before
 
 -- the lists code what they stand for
-told : (c : tie.Else1) → codesClient (now (start c .args .config)) (now (start c .args .client)) (now (start c .args .sent)) ≡ true
-told c = sym (c .before .codes-client .ensures) ∙ not-false _ (c .if1 .left)
+told : (c : tie.Else1) → areClientLists (now (start c .args .config)) (now (start c .args .client)) (now (start c .args .sent)) ≡ true
+told c = sym (c .before .are-client-lists .ensures) ∙ not-false _ (c .if1 .left)
 
-codes-client-requires : tie.Need-codes-client-requires
-codes-client-requires c κs = search needs
+are-client-lists-requires : tie.Need-are-client-lists-requires
+are-client-lists-requires c κs = search needs
 
 same-length : tie.Need-same-length
 same-length c = search needs
@@ -30,8 +30,8 @@ same-length-2 : tie.Need-same-length-2
 same-length-2 c = search needs
 
 returns : tie.Need-returns
-unfolding lapseLeft
-returns c = codes-nothing _ _ _ _ _ _ _ (sym (c .before .codes-client .ensures) ∙ not-true _ (c .if1 .taken))
+unfolding passTimeLeft
+returns c = codes-nothing _ _ _ _ _ _ _ (sym (c .before .are-client-lists .ensures) ∙ not-true _ (c .if1 .taken))
 
 config-in-requires : tie.Need-config-in-requires
 config-in-requires c κs = omega (arith, client-lengths _ _ _ (told c) .0)
@@ -39,8 +39,8 @@ config-in-requires c κs = omega (arith, client-lengths _ _ _ (told c) .0)
 client-in-requires : tie.Need-client-in-requires
 client-in-requires c κs = omega (arith, client-lengths _ _ _ (told (c .before .before)) .2)
 
-pass-time-requires : tie.Need-pass-time-requires
-pass-time-requires c κs = search needs
+device-lapses-requires : tie.Need-device-lapses-requires
+device-lapses-requires c κs = search needs
 
 put-client-reply-requires : tie.Need-put-client-reply-requires
 put-client-reply-requires c κs =
@@ -54,7 +54,7 @@ same-length-4 : tie.Need-same-length-4
 same-length-4 c = search needs
 
 returns-2 : tie.Need-returns-2
-unfolding lapseLeft
+unfolding passTimeLeft
 returns-2 c =
     let p = c .before .before .before .before in
     let x = p .before .before .before .before in
@@ -62,20 +62,20 @@ returns-2 c =
     let a = start (g .before) .args in
     replied (λ (b : Bool) (z : ClientReply). clientLeft b z (now (a .client)) (now (a .sent))) _ _ (told (g .before))
     (reads (λ (f : Config) (y : Client). deviceLapses f (a .number) (a .reading) y)
-    (g .config-in .ensures) (x .before .client-in .ensures) (x .pass-time .ensures))
+    (g .config-in .ensures) (x .before .client-in .ensures) (x .device-lapses .ensures))
     (p .put-client-reply .ensures)
 
 pub hoyllaqe-pass-time-spec : {M : Type 1} → statement M
 hoyllaqe-pass-time-spec =
     tie.close
     (tie.spec
-    codes-client-requires
+    are-client-lists-requires
     same-length
     same-length-2
     returns
     config-in-requires
     client-in-requires
-    pass-time-requires
+    device-lapses-requires
     put-client-reply-requires
     same-length-3
     same-length-4

@@ -8,11 +8,11 @@ use Rattle.types.specs.declared.Config.{Config}
 use Rattle.types.specs.declared.Server.{Server}
 use Rattle.types.specs.declared.Message.{Message}
 use Rattle.rules.specs.Conditions.{_and_}
-use Rattle.flat.specs.Flat.{isMessage}
+use Rattle.flat.specs.Flat.{codesMessage}
 use Rattle.device.specs.declared.ServerReply.{ServerReply}
 use Rattle.device.specs.Device.{deviceReceives}
 use Rattle.device.proofs.Laws.{first-holds, both-is}
-use Rattle.firmware.specs.Firmware.{serverLeft, codesServer, messageLeft}
+use Rattle.firmware.specs.Firmware.{serverLeft, areServerLists, receiveMessageLeft}
 use Rattle.firmware.proofs.Laws.{server-lengths, message-length, codes-nothing, reads-message, replied}
 use Rattle.firmware.proofs.hoyllaqe_receive_message.Statement.{statement}
 use Rattle.firmware.proofs.hoyllaqe_receive_message.Tie as tie
@@ -22,16 +22,16 @@ start c = c .before .before .before .before .before .before .before .before .bef
 
 -- the lists code what they stand for
 told : (c : tie.Else1)
-    → (codesServer (now (start c .args .config)) (now (start c .args .server)) (now (start c .args .sent)) and isMessage (now (start c .args .message))) ≡ true
+    → (areServerLists (now (start c .args .config)) (now (start c .args .server)) (now (start c .args .sent)) and codesMessage (now (start c .args .message))) ≡ true
 told c =
     let t = c .before in
-    both-is _ _ _ _ _ _ (t .both .ensures) (t .before .before .codes-server .ensures) (t .before .is-message .ensures) (not-false _ (c .if1 .left))
+    both-is _ _ _ _ _ _ (t .both .ensures) (t .before .before .are-server-lists .ensures) (t .before .codes-message .ensures) (not-false _ (c .if1 .left))
 
-codes-server-requires : tie.Need-codes-server-requires
-codes-server-requires c κs = search needs
+are-server-lists-requires : tie.Need-are-server-lists-requires
+are-server-lists-requires c κs = search needs
 
-is-message-requires : tie.Need-is-message-requires
-is-message-requires c κs = search needs
+codes-message-requires : tie.Need-codes-message-requires
+codes-message-requires c κs = search needs
 
 both-requires : tie.Need-both-requires
 both-requires c κs = search needs
@@ -43,11 +43,11 @@ same-length-2 : tie.Need-same-length-2
 same-length-2 c = search needs
 
 returns : tie.Need-returns
-unfolding messageLeft
+unfolding receiveMessageLeft
 returns c =
     let t = c .before in
     codes-nothing _ _ _ _ _ _ _
-    (both-is _ _ _ _ _ _ (t .both .ensures) (t .before .before .codes-server .ensures) (t .before .is-message .ensures) (not-true _ (c .if1 .taken)))
+    (both-is _ _ _ _ _ _ (t .both .ensures) (t .before .before .are-server-lists .ensures) (t .before .codes-message .ensures) (not-true _ (c .if1 .taken)))
 
 config-in-requires : tie.Need-config-in-requires
 config-in-requires c κs = omega (arith, server-lengths _ _ _ (first-holds _ _ (told c)) .0)
@@ -58,8 +58,8 @@ server-in-requires c κs = omega (arith, server-lengths _ _ _ (first-holds _ _ (
 message-in-requires : tie.Need-message-in-requires
 message-in-requires c κs = omega (arith, message-length _ _ (told (c .before .before .before)))
 
-receive-message-requires : tie.Need-receive-message-requires
-receive-message-requires c κs = search needs
+device-receives-requires : tie.Need-device-receives-requires
+device-receives-requires c κs = search needs
 
 put-server-reply-requires : tie.Need-put-server-reply-requires
 put-server-reply-requires c κs =
@@ -73,7 +73,7 @@ same-length-4 : tie.Need-same-length-4
 same-length-4 c = search needs
 
 returns-2 : tie.Need-returns-2
-unfolding messageLeft
+unfolding receiveMessageLeft
 returns-2 c =
     let p = c .before .before .before .before in
     let x = p .before .before .before .before in
@@ -82,15 +82,15 @@ returns-2 c =
     let a = start (g .before) .args in
     replied (λ (b : Bool) (z : ServerReply). serverLeft b z (now (a .server)) (now (a .sent))) _ _ (told (g .before))
     (reads-message (λ (f : Config) (s : Server) (v : Message). deviceReceives f (a .number) (a .reading) s v)
-    (g .config-in .ensures) (m .before .server-in .ensures) (m .message-in .ensures) (x .receive-message .ensures))
+    (g .config-in .ensures) (m .before .server-in .ensures) (m .message-in .ensures) (x .device-receives .ensures))
     (p .put-server-reply .ensures)
 
 pub hoyllaqe-receive-message-spec : {M : Type 1} → statement M
 hoyllaqe-receive-message-spec =
     tie.close
     (tie.spec
-    codes-server-requires
-    is-message-requires
+    are-server-lists-requires
+    codes-message-requires
     both-requires
     same-length
     same-length-2
@@ -98,7 +98,7 @@ hoyllaqe-receive-message-spec =
     config-in-requires
     server-in-requires
     message-in-requires
-    receive-message-requires
+    device-receives-requires
     put-server-reply-requires
     same-length-3
     same-length-4

@@ -7,7 +7,7 @@ use lib.Dec.{eqb}
 use lib.ListN.{length, getD}
 use Rattle.rules.specs.Conditions.{_and_, all}
 use Rattle.rules.proofs.Laws.{all-more, all-done}
-use Rattle.flat.specs.Blocks.{same}
+use Rattle.flat.specs.Blocks.{isSame}
 use Rattle.flatten.proofs.is_same.Statement.{statement}
 use Rattle.flatten.proofs.is_same.Tie as tie
 
@@ -18,7 +18,7 @@ abbrev μ-loop : tie.MeasureT-loop
 μ-loop v l ok₀ i₀ ok i = length l - i
 
 returns : tie.Need-returns Inv-loop μ-loop
-unfolding same _and_
+unfolding isSame _and_
 returns c = rw (ne-eqb _ _ (c .if1 .taken))
 
 loop-holds : tie.Need-loop-holds Inv-loop μ-loop
@@ -52,7 +52,7 @@ loop-again c =
     (omega arith, p .inv .1, all-more _ _ _ _ _ refl (p .inv .2) (c .both .ensures))
 
 returns-2 : tie.Need-returns-2 Inv-loop μ-loop
-unfolding same _and_
+unfolding isSame _and_
 returns-2 c =
     let p = c .before .loop in
     rw (eq-eqb _ _ (p .inv .1)) (all-done _ _ _ _ (omega arith) (p .inv .2))

@@ -29,7 +29,7 @@ returns c =
     let a = q .before .before .before .args in
     let d = a .c in
     let front = d .servers ∷ d .clients ∷ d .addresses ∷ d .skew ∷ [] in
-    let back = d .silence ∷ d .mclt ∷ d .hold ∷ [] in
+    let back = d .detection ∷ d .mclt ∷ d .retention ∷ [] in
     over-then (now (a .out)) front back (a .at) (a .at + 4) (omega arith) refl (q .put-four .ensures) (p .put-three .ensures)
 
 pub put-config-spec : {M : Type 1} → statement M

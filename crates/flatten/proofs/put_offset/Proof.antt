@@ -7,8 +7,8 @@ use Rattle.flat.specs.Flat.{plain}
 use Rattle.flatten.proofs.put_offset.Statement.{statement}
 use Rattle.flatten.proofs.put_offset.Tie as tie
 
-in-complement-requires : tie.Need-in-complement-requires
-in-complement-requires c κs = search needs
+complement-requires : tie.Need-complement-requires
+complement-requires c κs = search needs
 
 put-number-requires : tie.Need-put-number-requires
 put-number-requires c κs = search needs
@@ -21,9 +21,9 @@ returns c =
     let p = c .before .before in
     let s = p .before .before .before .before in
     let a = s .args in
-    let n = p .before .in-complement .ensures ∙ ap complement (toZ-ofZ (s .fits .z)) in
+    let n = p .before .complement .ensures ∙ ap complement (toZ-ofZ (s .fits .z)) in
     p .put-number .ensures ∙ ap (λ k. over (now (a .out)) (a .at) (plain k)) n
 
 pub put-offset-spec : {M : Type 1} → statement M
 put-offset-spec =
-    tie.close (tie.spec in-complement-requires put-number-requires same-length returns)
+    tie.close (tie.spec complement-requires put-number-requires same-length returns)

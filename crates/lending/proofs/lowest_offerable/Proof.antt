@@ -27,22 +27,22 @@ mul-reservation c = omega arith
 array-copy-out-reservation : tie.Need-array-copy-out-reservation Inv-loop μ-loop
 array-copy-out-reservation c = omega arith
 
-array-read-is-offerable : tie.Need-array-read-is-offerable Inv-loop μ-loop
-array-read-is-offerable c = omega arith
+array-read-may-offer : tie.Need-array-read-may-offer Inv-loop μ-loop
+array-read-may-offer c = omega arith
 
-mul-is-offerable : tie.Need-mul-is-offerable Inv-loop μ-loop
-mul-is-offerable c = omega arith
+mul-may-offer : tie.Need-mul-may-offer Inv-loop μ-loop
+mul-may-offer c = omega arith
 
-array-read-is-offerable-2 : tie.Need-array-read-is-offerable-2 Inv-loop μ-loop
-array-read-is-offerable-2 c = omega arith
+array-read-may-offer-2 : tie.Need-array-read-may-offer-2 Inv-loop μ-loop
+array-read-may-offer-2 c = omega arith
 
-is-offerable-requires : tie.Need-is-offerable-requires Inv-loop μ-loop
-is-offerable-requires c κs = c .before .before .before .pre
+may-offer-requires : tie.Need-may-offer-requires Inv-loop μ-loop
+may-offer-requires c κs = c .before .before .before .pre
 
 returns : tie.Need-returns Inv-loop μ-loop
 returns c = let u = c .before .before .before in
     let a = u .before .before .args in
-    let here = lowest-here (offerableAt (a .c) (a .r) (a .t3) (a .t4) (a .t5)) _ _ (u .loop-test .taken) (sym (c .before .is-offerable .ensures) ∙ c .if1 .taken) in
+    let here = lowest-here (offerableAt (a .c) (a .r) (a .t3) (a .t4) (a .t5)) _ _ (u .loop-test .taken) (sym (c .before .may-offer .ensures) ∙ c .if1 .taken) in
     lowest-found _ _ _ _ _ _ (u .before .loop .inv .1 ∙ sym here) (u .loop-test .taken)
 
 add-a : tie.Need-add-a Inv-loop μ-loop
@@ -53,7 +53,7 @@ loop-less c = omega arith
 
 loop-again : tie.Need-loop-again Inv-loop μ-loop
 loop-again c = let u = c .before .before .before in
-    (omega arith, u .before .loop .inv .1 ∙ lowest-on _ _ _ (u .loop-test .taken) (sym (c .before .is-offerable .ensures) ∙ c .if1 .left))
+    (omega arith, u .before .loop .inv .1 ∙ lowest-on _ _ _ (u .loop-test .taken) (sym (c .before .may-offer .ensures) ∙ c .if1 .left))
 
 returns-2 : tie.Need-returns-2 Inv-loop μ-loop
 returns-2 c = lowest-missing _ _ _ _ _ _ (c .before .loop .inv .1 ∙ lowest-none _ _ _ (c .loop-test .left)) (c .loop-test .left)
@@ -68,10 +68,10 @@ lowest-offerable-spec =
     cast-at
     mul-reservation
     array-copy-out-reservation
-    array-read-is-offerable
-    mul-is-offerable
-    array-read-is-offerable-2
-    is-offerable-requires
+    array-read-may-offer
+    mul-may-offer
+    array-read-may-offer-2
+    may-offer-requires
     returns
     add-a
     loop-less

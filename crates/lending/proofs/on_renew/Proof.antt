@@ -16,8 +16,8 @@ add-larger c = search needs
 larger-requires : tie.Need-larger-requires
 larger-requires c κs = search needs
 
-grant-requires : tie.Need-grant-requires
-grant-requires c κs = search needs
+granted-requires : tie.Need-granted-requires
+granted-requires c κs = search needs
 
 returns : tie.Need-returns
 unfolding onRenew
@@ -25,7 +25,7 @@ returns c =
     let b = c .before .before .before in
     let a = b .before .before .args in
     let lasts : (a .b .leads and leb (a .r) (a .e)) ≡ true = sym (b .before .both .ensures) ∙ b .if1 .taken in
-    rw (lasts, ← c .before .larger .ensures) (c .grant .ensures)
+    rw (lasts, ← c .before .larger .ensures) (c .granted .ensures)
 
 nothing-requires : tie.Need-nothing-requires
 nothing-requires c κs = search needs
@@ -41,7 +41,7 @@ on-renew-spec =
     both-requires
     add-larger
     larger-requires
-    grant-requires
+    granted-requires
     returns
     nothing-requires
     returns-2)

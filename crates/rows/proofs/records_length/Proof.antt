@@ -24,22 +24,22 @@ loop-holds c = (omega arith, ap length (sym (no-records _)))
 row-at-requires : tie.Need-row-at-requires Inv-loop μ-loop
 row-at-requires c κs = omega arith
 
-field-count-requires : tie.Need-field-count-requires Inv-loop μ-loop
-field-count-requires c κs = tt
+fields-of-requires : tie.Need-fields-of-requires Inv-loop μ-loop
+fields-of-requires c κs = tt
 
 mul-sum : tie.Need-mul-sum Inv-loop μ-loop
-mul-sum c = omega (arith, c .field-count .ensures)
+mul-sum c = omega (arith, c .fields-of .ensures)
 
 add-sum : tie.Need-add-sum Inv-loop μ-loop
-add-sum c = omega (arith, c .field-count .ensures)
+add-sum c = omega (arith, c .fields-of .ensures)
 
 cast-sum : tie.Need-cast-sum Inv-loop μ-loop
-cast-sum c = omega (arith, c .field-count .ensures)
+cast-sum c = omega (arith, c .fields-of .ensures)
 
 add-sum-2 : tie.Need-add-sum-2 Inv-loop μ-loop
 add-sum-2 c =
     let b = c .before .before .before .before .before in
-    omega (arith, c .field-count .ensures, b .good, records-high (now (b .args .l)) (c .before .before .before .loop .n))
+    omega (arith, c .fields-of .ensures, b .good, records-high (now (b .args .l)) (c .before .before .before .loop .n))
 
 add-n : tie.Need-add-n Inv-loop μ-loop
 add-n c = omega arith
@@ -51,7 +51,7 @@ loop-again : tie.Need-loop-again Inv-loop μ-loop
 loop-again c =
     let p = c .before .before .before .loop in
     let l = now (c .before .before .before .before .before .args .l) in
-    let e : c .field-count .result ≡ fieldsOf (rowAt l (p .n) .kind) = c .field-count .ensures .0 ∙ ap (λ (s : Step). fieldsOf (s .kind)) (c .before .row-at .ensures) in
+    let e : c .fields-of .result ≡ fieldsOf (rowAt l (p .n) .kind) = c .fields-of .ensures .0 ∙ ap (λ (s : Step). fieldsOf (s .kind)) (c .before .row-at .ensures) in
     (omega arith, omega (arith, p .inv .1, e, next-length l (p .n), record-length (rowAt l (p .n))))
 
 returns : tie.Need-returns Inv-loop μ-loop
@@ -69,7 +69,7 @@ records-length-spec =
     μ-loop
     loop-holds
     row-at-requires
-    field-count-requires
+    fields-of-requires
     mul-sum
     add-sum
     cast-sum

@@ -1,7 +1,7 @@
 use mathlib.Core.Path.{sym, _∙_}
 use denote.Ref.{now}
 use borrow.Author.Needs.{needs}
-use Rattle.script.specs.Reading.{decoded}
+use Rattle.script.specs.Reading.{decode}
 use Rattle.script.proofs.Laws.{framed-is-long}
 use Rattle.script.proofs.decode.Statement.{statement}
 use Rattle.script.proofs.decode.Tie as tie
@@ -16,7 +16,7 @@ step-refusal-requires : tie.Need-step-refusal-requires
 step-refusal-requires c κs = search needs
 
 returns : tie.Need-returns
-unfolding decoded
+unfolding decode
 returns c =
     let d = c .before .before in
     rw (sym (d .before .is-framed .ensures) ∙ d .if1 .taken, ← (c .before .step-in .ensures), c .step-refusal .ensures)
@@ -26,7 +26,7 @@ no-step-requires c κs = search needs
 
 -- refused by its frame
 returns-2 : tie.Need-returns-2
-unfolding decoded
+unfolding decode
 returns-2 c = rw (sym (c .before .before .is-framed .ensures) ∙ c .before .if1 .left, c .no-step .ensures)
 
 pub decode-spec : {M : Type 1} → statement M

@@ -22,8 +22,8 @@ shared-slice-read-wide c = search needs
 wide-requires : tie.Need-wide-requires
 wide-requires c κs = search needs
 
-field-count-requires : tie.Need-field-count-requires
-field-count-requires c κs = search needs
+fields-of-requires : tie.Need-fields-of-requires
+fields-of-requires c κs = search needs
 
 mul-either : tie.Need-mul-either
 mul-either c = search needs
@@ -41,7 +41,7 @@ returns-2 : tie.Need-returns-2
 unfolding _and_
 returns-2 c =
     let r = now (c .before .before .before .before .before .before .args .r) in
-    let n = c .before .field-count .ensures .0 ∙ ap fieldsOf (c .before .before .wide .ensures .0) in
+    let n = c .before .fields-of .ensures .0 ∙ ap fieldsOf (c .before .before .wide .ensures .0) in
     rw (framed r, lt-ltb 0 (length r) (omega arith), ← n) (c .either .ensures)
 
 pub is-framed-spec : {M : Type 1} → statement M
@@ -51,7 +51,7 @@ is-framed-spec =
     returns
     shared-slice-read-wide
     wide-requires
-    field-count-requires
+    fields-of-requires
     mul-either
     add-either
     cast-either

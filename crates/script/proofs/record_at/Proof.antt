@@ -6,7 +6,7 @@ use denote.Ref.{now}
 use borrow.Author.Needs.{needs}
 use borrow.Author.Tests.{lt-ltb, le-ltb}
 use Rattle.rules.specs.Conditions.{_and_}
-use Rattle.script.specs.Reading.{decoded, recordAt}
+use Rattle.script.specs.Reading.{decode, recordAt}
 use Rattle.script.proofs.Walk.{part-from-to}
 use Rattle.script.proofs.record_at.Statement.{statement}
 use Rattle.script.proofs.record_at.Tie as tie
@@ -69,7 +69,7 @@ returns-3 c =
     let a = d .before .before .before .before .args in
     let e = d .wide .ensures .0 in
     rw (lt-ltb _ _ (d .before .before .if1 .left), lt-ltb (a .p + getD (now (a .s)) (a .p) 0) (length (now (a .s))) (omega arith))
-    (cc (e, c .before .decode .ensures ∙ ap decoded (part-from-to (now (a .s)) (a .p) _ e)))
+    (cc (e, c .before .decode .ensures ∙ ap decode (part-from-to (now (a .s)) (a .p) _ e)))
 
 pub record-at-spec : {M : Type 1} → statement M
 record-at-spec =

@@ -16,21 +16,21 @@ shared-slice-read-wide c = search needs
 wide-requires : tie.Need-wide-requires
 wide-requires c κs = search needs
 
-field-count-requires : tie.Need-field-count-requires
-field-count-requires c κs = search needs
+fields-of-requires : tie.Need-fields-of-requires
+fields-of-requires c κs = search needs
 
 field-in-requires : tie.Need-field-in-requires
-field-in-requires c κs = (c .field-count .ensures .1, fit (c .before .wide .ensures .0) (c .field-count .ensures .0) (c .before .before .before .before .pre))
+field-in-requires c κs = (c .fields-of .ensures .1, fit (c .before .wide .ensures .0) (c .fields-of .ensures .0) (c .before .before .before .before .pre))
 
 field-in-requires-2 : tie.Need-field-in-requires-2
 field-in-requires-2 c κs =
     let b = c .before in
-    (b .field-count .ensures .1, fit (b .before .wide .ensures .0) (b .field-count .ensures .0) (b .before .before .before .before .pre))
+    (b .fields-of .ensures .1, fit (b .before .wide .ensures .0) (b .fields-of .ensures .0) (b .before .before .before .before .pre))
 
 field-in-requires-3 : tie.Need-field-in-requires-3
 field-in-requires-3 c κs =
     let b = c .before .before in
-    (b .field-count .ensures .1, fit (b .before .wide .ensures .0) (b .field-count .ensures .0) (b .before .before .before .before .pre))
+    (b .fields-of .ensures .1, fit (b .before .wide .ensures .0) (b .fields-of .ensures .0) (b .before .before .before .before .pre))
 
 returns : tie.Need-returns
 unfolding stepIn
@@ -39,7 +39,7 @@ returns c =
       c .field-in3 .ensures,
       c .before .field-in2 .ensures,
       c .before .before .field-in .ensures,
-      c .before .before .before .field-count .ensures .0,
+      c .before .before .before .fields-of .ensures .0,
       c .before .before .before .before .wide .ensures .0,
     )
 
@@ -49,7 +49,7 @@ step-in-spec =
     (tie.spec
     shared-slice-read-wide
     wide-requires
-    field-count-requires
+    fields-of-requires
     field-in-requires
     field-in-requires-2
     field-in-requires-3

@@ -2,11 +2,11 @@ use borrow.Author.Needs.{needs}
 use Rattle.server.proofs.handle_alive.Statement.{statement}
 use Rattle.server.proofs.handle_alive.Tie as tie
 
-handle-requires : tie.Need-handle-requires
-handle-requires c κs = search needs
+handled-at-requires : tie.Need-handled-at-requires
+handled-at-requires c κs = search needs
 
 returns : tie.Need-returns
-returns c = rw (c .before .if1 .taken) (c .handle .ensures)
+returns c = rw (c .before .if1 .taken) (c .handled-at .ensures)
 
 unmoved-requires : tie.Need-unmoved-requires
 unmoved-requires c κs = search needs
@@ -15,4 +15,4 @@ returns-2 : tie.Need-returns-2
 returns-2 c = rw (c .before .if1 .left) (c .unmoved .ensures)
 
 pub handle-alive-spec : {M : Type 1} → statement M
-handle-alive-spec = tie.close (tie.spec handle-requires returns unmoved-requires returns-2)
+handle-alive-spec = tie.close (tie.spec handled-at-requires returns unmoved-requires returns-2)

@@ -123,13 +123,13 @@ enum-told c = search needs
 enum-known-happens : tie.Need-enum-known-happens Inv-loop2 μ-loop2 Inv-loop3 μ-loop3 Inv-loop μ-loop
 enum-known-happens c = search needs
 
-move-on-requires : tie.Need-move-on-requires Inv-loop2 μ-loop2 Inv-loop3 μ-loop3 Inv-loop μ-loop
-move-on-requires c κs =
+moved-in-requires : tie.Need-moved-in-requires Inv-loop2 μ-loop2 Inv-loop3 μ-loop3 Inv-loop μ-loop
+moved-in-requires c κs =
     let fit : SFits w32 (c .before .happens .given .0 .1 .1 .0) = search needs in
     rw (toZ-ofZ fit) (passed-fits (turn (c .before .before .before .before)) _ _ _ (c .before .happens .given .1))
 
-end-holds-requires : tie.Need-end-holds-requires Inv-loop2 μ-loop2 Inv-loop3 μ-loop3 Inv-loop μ-loop
-end-holds-requires c κs = rw (c .move-on .ensures) (c-ok (turn (c .before .before .before .before .before)), (passed-fits (turn (c .before .before .before .before .before)) _ _ _ (c .before .before .happens .given .1)) .0)
+holds-ended-requires : tie.Need-holds-ended-requires Inv-loop2 μ-loop2 Inv-loop3 μ-loop3 Inv-loop μ-loop
+holds-ended-requires c κs = rw (c .moved-in .ensures) (c-ok (turn (c .before .before .before .before .before)), (passed-fits (turn (c .before .before .before .before .before)) _ _ _ (c .before .before .happens .given .1)) .0)
 
 enum-known-happens-2 : tie.Need-enum-known-happens-2 Inv-loop2 μ-loop2 Inv-loop3 μ-loop3 Inv-loop μ-loop
 enum-known-happens-2 c = search needs
@@ -152,8 +152,8 @@ array-copy-out-served-at c = omega (arith, served-low (turn (c .before .before .
 served-at-requires : tie.Need-served-at-requires Inv-loop2 μ-loop2 Inv-loop3 μ-loop3 Inv-loop μ-loop
 served-at-requires c κs = served-fits (turn (c .before .before .before .before .before .before .before)) _ _ (c .before .before .before .before .happens2 .given .1)
 
-has-room-requires : tie.Need-has-room-requires Inv-loop2 μ-loop2 Inv-loop3 μ-loop3 Inv-loop μ-loop
-has-room-requires c κs = asked-of (turn (c .before .before .before .before .before .before .before .before .before)) (few-sent (turn (c .before .before .before .before .before .before .before .before .before)) _ _ (c .before .before .before .before .before .before .happens2 .given .1) (rw (served-offset (turn (c .before .before .before .before .before .before .before .before .before)) _ _ (c .before .before .before .before .before .before .happens2 .given .1)) at (c .before .served-at .ensures)))
+room-for-requires : tie.Need-room-for-requires Inv-loop2 μ-loop2 Inv-loop3 μ-loop3 Inv-loop μ-loop
+room-for-requires c κs = asked-of (turn (c .before .before .before .before .before .before .before .before .before)) (few-sent (turn (c .before .before .before .before .before .before .before .before .before)) _ _ (c .before .before .before .before .before .before .happens2 .given .1) (rw (served-offset (turn (c .before .before .before .before .before .before .before .before .before)) _ _ (c .before .before .before .before .before .before .happens2 .given .1)) at (c .before .served-at .ensures)))
 
 mul-ss : tie.Need-mul-ss Inv-loop2 μ-loop2 Inv-loop3 μ-loop3 Inv-loop μ-loop
 mul-ss c = omega (arith, served-low (turn (c .before .before .before .before .before .before .before .before .before .before .before .before)) _ _ (c .before .before .before .before .before .before .before .before .before .happens2 .given .1))
@@ -179,8 +179,8 @@ array-copy-out-asked-in c = omega (arith, asked-low (turn (c .before .before .be
 asked-in-requires : tie.Need-asked-in-requires Inv-loop2 μ-loop2 Inv-loop3 μ-loop3 Inv-loop μ-loop
 asked-in-requires c κs = asked-fits (turn (c .before .before .before .before .before)) _ _ (c .before .before .happens3 .given .1)
 
-has-room-requires-2 : tie.Need-has-room-requires-2 Inv-loop2 μ-loop2 Inv-loop3 μ-loop3 Inv-loop μ-loop
-has-room-requires-2 c κs = asked-of (turn (c .before .before .before .before .before .before .before)) (few-said (turn (c .before .before .before .before .before .before .before)) _ _ (c .before .before .before .before .happens3 .given .1) (c .before .asked-in .ensures))
+room-for-requires-2 : tie.Need-room-for-requires-2 Inv-loop2 μ-loop2 Inv-loop3 μ-loop3 Inv-loop μ-loop
+room-for-requires-2 c κs = asked-of (turn (c .before .before .before .before .before .before .before)) (few-said (turn (c .before .before .before .before .before .before .before)) _ _ (c .before .before .before .before .happens3 .given .1) (c .before .asked-in .ensures))
 
 mul-ys : tie.Need-mul-ys Inv-loop2 μ-loop2 Inv-loop3 μ-loop3 Inv-loop μ-loop
 mul-ys c = omega (arith, asked-low (turn (c .before .before .before .before .before .before .before .before .before .before)) _ _ (c .before .before .before .before .before .before .before .happens3 .given .1))
@@ -316,8 +316,8 @@ put-turns-spec =
     nothing-requires
     enum-told
     enum-known-happens
-    move-on-requires
-    end-holds-requires
+    moved-in-requires
+    holds-ended-requires
     enum-known-happens-2
     cast-place
     mul-served-at
@@ -325,7 +325,7 @@ put-turns-spec =
     mul-served-at-2
     array-copy-out-served-at
     served-at-requires
-    has-room-requires
+    room-for-requires
     mul-ss
     array-set-from-ss
     notices-after-requires
@@ -334,7 +334,7 @@ put-turns-spec =
     mul-asked-in
     array-copy-out-asked-in
     asked-in-requires
-    has-room-requires-2
+    room-for-requires-2
     mul-ys
     array-set-from-ys
     next-after-requires

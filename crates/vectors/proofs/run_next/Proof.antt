@@ -9,21 +9,21 @@ use Rattle.vectors.proofs.run_next.Tie as tie
 read-script-requires : tie.Need-read-script-requires
 read-script-requires c κs = search needs
 
-slice-reshare-prefix-run : tie.Need-slice-reshare-prefix-run
-slice-reshare-prefix-run c = search needs
+slice-reshare-prefix-put-output : tie.Need-slice-reshare-prefix-put-output
+slice-reshare-prefix-put-output c = search needs
 
-slice-aggregate-run : tie.Need-slice-aggregate-run
-slice-aggregate-run c = search needs
+slice-aggregate-put-output : tie.Need-slice-aggregate-put-output
+slice-aggregate-put-output c = search needs
 
-run-requires : tie.Need-run-requires
-run-requires c κs = search needs
+put-output-requires : tie.Need-put-output-requires
+put-output-requires c κs = search needs
 
 -- the output lies within the buffer
 slice-reshare-prefix-write-all : tie.Need-slice-reshare-prefix-write-all
 slice-reshare-prefix-write-all c =
     let d = c .before .before in
     let out = now (d .before .before .before .before .before .before .before .before .before .args .out) in
-    lies-within _ out _ _ (d .run .ensures .0) (d .run .ensures .1)
+    lies-within _ out _ _ (d .put-output .ensures .0) (d .put-output .ensures .1)
 
 slice-aggregate-write-all : tie.Need-slice-aggregate-write-all
 slice-aggregate-write-all c = sym (length-take-le _ _ (slice-reshare-prefix-write-all (c .before)))
@@ -45,9 +45,9 @@ run-next-spec =
     tie.close
     (tie.spec
     read-script-requires
-    slice-reshare-prefix-run
-    slice-aggregate-run
-    run-requires
+    slice-reshare-prefix-put-output
+    slice-aggregate-put-output
+    put-output-requires
     slice-reshare-prefix-write-all
     slice-aggregate-write-all
     write-all-requires

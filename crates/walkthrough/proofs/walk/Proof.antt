@@ -11,8 +11,8 @@ Inv-loop rows f₀ count n₀ t9 t10 f n = (n ≤ count) × (count * 4 ≤ lengt
 abbrev μ-loop : tie.MeasureT-loop
 μ-loop rows f₀ count n₀ t9 t10 f n = count - n
 
-fresh-requires : tie.Need-fresh-requires Inv-loop μ-loop
-fresh-requires c κs = search needs
+start-requires : tie.Need-start-requires Inv-loop μ-loop
+start-requires c κs = search needs
 
 loop-holds : tie.Need-loop-holds Inv-loop μ-loop
 loop-holds c = omega arith
@@ -71,8 +71,8 @@ slice-aggregate-write-all c = omega arith
 write-all-requires : tie.Need-write-all-requires Inv-loop μ-loop
 write-all-requires c κs = search needs
 
-held-requires : tie.Need-held-requires Inv-loop μ-loop
-held-requires c κs = search needs
+held-clients-requires : tie.Need-held-clients-requires Inv-loop μ-loop
+held-clients-requires c κs = search needs
 
 print-field-requires : tie.Need-print-field-requires Inv-loop μ-loop
 print-field-requires c κs = search needs
@@ -92,7 +92,7 @@ walk-spec =
     (tie.spec
     Inv-loop
     μ-loop
-    fresh-requires
+    start-requires
     loop-holds
     mul-at
     mul-t13
@@ -112,7 +112,7 @@ walk-spec =
     loop-again
     slice-aggregate-write-all
     write-all-requires
-    held-requires
+    held-clients-requires
     print-field-requires
     slice-aggregate-write-all-2
     write-all-requires-2

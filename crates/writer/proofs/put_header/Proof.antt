@@ -58,15 +58,15 @@ returns c =
     let v₂ = v₁ ++ bytesOf (d .clients) in
     let v₃ = v₂ ++ bytesOf (d .addresses) in
     let v₄ = v₃ ++ bytesOf (d .skew) in
-    let v₅ = v₄ ++ bytesOf (d .silence) in
+    let v₅ = v₄ ++ bytesOf (d .detection) in
     let v₆ = v₅ ++ bytesOf (d .mclt) in
     let e₁ = over-then l (1 ∷ []) (bytesOf (d .servers)) 0 1 (omega arith) refl (c₀ .put-byte .ensures) (c₁ .put-number .ensures) in
     let e₂ = over-then l v₁ (bytesOf (d .clients)) 0 5 (omega arith) refl e₁ (c₂ .put-number2 .ensures) in
     let e₃ = over-then l v₂ (bytesOf (d .addresses)) 0 9 (omega arith) refl e₂ (c₃ .put-number3 .ensures) in
     let e₄ = over-then l v₃ (bytesOf (d .skew)) 0 13 (omega arith) refl e₃ (c₄ .put-number4 .ensures) in
-    let e₅ = over-then l v₄ (bytesOf (d .silence)) 0 17 (omega arith) refl e₄ (c₅ .put-number5 .ensures) in
+    let e₅ = over-then l v₄ (bytesOf (d .detection)) 0 17 (omega arith) refl e₄ (c₅ .put-number5 .ensures) in
     let e₆ = over-then l v₅ (bytesOf (d .mclt)) 0 21 (omega arith) refl e₅ (c₆ .put-number6 .ensures) in
-    over-then l v₆ (bytesOf (d .hold)) 0 25 (omega arith) refl e₆ (c₇ .put-number7 .ensures)
+    over-then l v₆ (bytesOf (d .retention)) 0 25 (omega arith) refl e₆ (c₇ .put-number7 .ensures)
 
 pub put-header-spec : {M : Type 1} → statement M
 put-header-spec =

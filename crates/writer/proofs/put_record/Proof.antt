@@ -9,8 +9,8 @@ use Rattle.writer.proofs.Laws.{kind-high, fields-low, one-put, two-put,
 use Rattle.writer.proofs.put_record.Statement.{statement}
 use Rattle.writer.proofs.put_record.Tie as tie
 
-field-count-requires : tie.Need-field-count-requires
-field-count-requires c κs = search needs
+fields-of-requires : tie.Need-fields-of-requires
+fields-of-requires c κs = search needs
 
 mul-put-first : tie.Need-mul-put-first
 mul-put-first c = search needs
@@ -37,7 +37,7 @@ returns : tie.Need-returns
 returns c =
     let f = c .before .before .before .before .before in
     let b = f .before .before in
-    one-put (b .args .s) _ (f .field-count .ensures .0) (now (b .args .out)) (b .args .at) (c .before .before .before .put-first .ensures) (omega arith)
+    one-put (b .args .s) _ (f .fields-of .ensures .0) (now (b .args .out)) (b .args .at) (c .before .before .before .put-first .ensures) (omega arith)
 
 add-put-number : tie.Need-add-put-number
 add-put-number c = search needs
@@ -47,7 +47,7 @@ put-number-requires c κs =
     let f = c .before .before .before .before .before .before in
     let b = f .before .before in
     let s = b .args .s in
-    omega (arith, f .field-count .ensures, c .before .if1 .left, record-length s, fields-low s (b .pre .0))
+    omega (arith, f .fields-of .ensures, c .before .if1 .left, record-length s, fields-low s (b .pre .0))
 
 add-result-2 : tie.Need-add-result-2
 add-result-2 c = search needs
@@ -63,7 +63,7 @@ returns-2 c =
     let s = b .args .s in
     let room : b .args .at + 6 ≤ length (now (b .args .out)) = omega (arith, record-length s, fields-low s (b .pre .0)) in
     let put = c .before .before .before .put-number .ensures in
-    two-put s _ (f .field-count .ensures .0) (now (b .args .out)) (b .args .at) (p .put-first .ensures) put room (omega arith)
+    two-put s _ (f .fields-of .ensures .0) (now (b .args .out)) (b .args .at) (p .put-first .ensures) put room (omega arith)
 
 add-put-number-2 : tie.Need-add-put-number-2
 add-put-number-2 c = search needs
@@ -73,7 +73,7 @@ put-number-requires-2 c κs =
     let f = c .before .before .before .before .before .before .before .before .before .before .before in
     let b = f .before .before in
     let s = b .args .s in
-    omega (arith, f .field-count .ensures, c .before .if2 .left, c .before .before .before .before .before .before .if1 .left, record-length s, fields-low s (b .pre .0))
+    omega (arith, f .fields-of .ensures, c .before .if2 .left, c .before .before .before .before .before .before .if1 .left, record-length s, fields-low s (b .pre .0))
 
 add-result-3 : tie.Need-add-result-3
 add-result-3 c = search needs
@@ -90,16 +90,16 @@ returns-3 c =
     let f = p .before .before in
     let b = f .before .before in
     let s = b .args .s in
-    let three : f .field-count .result ≡ 3 = omega (arith, f .field-count .ensures, i₂ .if2 .left, i₁ .if1 .left, fields-low s (b .pre .0)) in
-    let room : b .args .at + 10 ≤ length (now (b .args .out)) = omega (arith, f .field-count .ensures, record-length s) in
+    let three : f .fields-of .result ≡ 3 = omega (arith, f .fields-of .ensures, i₂ .if2 .left, i₁ .if1 .left, fields-low s (b .pre .0)) in
+    let room : b .args .at + 10 ≤ length (now (b .args .out)) = omega (arith, f .fields-of .ensures, record-length s) in
     let put = c .before .before .put-number2 .ensures in
-    three-put s _ (f .field-count .ensures .0) (now (b .args .out)) (b .args .at) (p .put-first .ensures) (n .put-number .ensures) room three put
+    three-put s _ (f .fields-of .ensures .0) (now (b .args .out)) (b .args .at) (p .put-first .ensures) (n .put-number .ensures) room three put
 
 pub put-record-spec : {M : Type 1} → statement M
 put-record-spec =
     tie.close
     (tie.spec
-    field-count-requires
+    fields-of-requires
     mul-put-first
     add-put-first
     cast-put-first
