@@ -21,7 +21,7 @@ use Rattle.cable.specs.declared.Span.{Span}
 
 -- what is put behind the rest: what the outbox holds, then no message
 abbrev pub sentAt : Outbox → ℕ → Message
-sentAt o k = messageSent o k
+sentAt o k = messageSent (getD (o .messages) k noMessage) k (o .count)
 
 module _ (o : Outbox) (k : ℕ) where
   sent-here : k < o .count → sentAt o k ≡ getD (o .messages) k noMessage
@@ -183,7 +183,14 @@ moving-start {ms} {p} {n} {taken} {o} whole fits there stay end e = record {
   left = λ j h. refl;
 }
 
--- that of the span x
+-- what is put behind the rest of the span x is one of four
+pub sent-few : (p n : ℕ) (taken : Bool) (count : ℕ) {i : ℕ} {x : Span} → x ≡ spanOf p n taken count → count ≤ 4 → i < x .last → i - x .rest < 4
+sent-few p n taken count {i} e few h =
+    let high : i < endOf n (restOf n taken) count = rw e at h in
+    let low = rest-low n taken in
+    rw e (omega arith)
+
+-- the loops of the span x begin so
 pub moving-span : {ms : List Message} {p n : ℕ} {taken : Bool} {o : Outbox} {x : Span}
     → length ms ≡ 128 → n ≤ 128 → (T taken → p < n) → x ≡ spanOf p n taken (o .count) → Moving ms p n taken o (x .rest) (x .last) (x .first) ms
 moving-span whole fits there e = moving-start whole fits there (rw e) (rw e) (rw e)

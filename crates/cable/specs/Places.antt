@@ -2,9 +2,7 @@
 use mathlib.Core.Bool.{Bool, cond}
 use Prim.Native.Nat.{ℕ, _+_, min, max}
 use lib.Dec.{ltb}
-use lib.ListN.{getD}
 use Rattle.types.specs.declared.Message.{Message}
-use Rattle.types.specs.declared.Outbox.{Outbox}
 use Rattle.rules.specs.Parts.{noMessage}
 use Rattle.cable.specs.Exchange.{restOf}
 use Rattle.cable.specs.declared.Span.{Span}
@@ -26,6 +24,6 @@ spanOf p n taken count = record {
   waiting = restOf n taken + count;
 }
 
--- what the k-th place behind the rest holds: the message at k of what is sent, or no message
-unfoldable pub messageSent : Outbox → ℕ → Message
-messageSent o k = cond (ltb k (o .count)) (getD (o .messages) k noMessage) noMessage
+-- what the k-th place behind the rest holds: message m, which is the one at k of an outbox of so many, or no message
+unfoldable pub messageSent : Message → ℕ → ℕ → Message
+messageSent m k count = cond (ltb k count) m noMessage

@@ -73,13 +73,12 @@ pub fn span_of(p: u32, n: u32, taken: bool, count: u32) -> Span
     }
 }
 
-// What the k-th place behind the rest holds: the message at k of what is sent, or no message.
-pub fn message_sent(o: Outbox, k: usize) -> Message
-    requires { ⌜ o .count ≤ 4 ⌝ }
-    ensures { λ r. ⌜ r ≡ messageSent o k ⌝ }
+// What the k-th place behind the rest holds: m, the message at k of an outbox of so many, or no message.
+pub fn message_sent(m: Message, k: usize, count: u32) -> Message
+    ensures { λ r. ⌜ r ≡ messageSent m k count ⌝ }
 {
-    if k < o.count as usize {
-        return o.messages[k];
+    if k < count as usize {
+        return m;
     }
     outbox::no_message()
 }
@@ -116,7 +115,8 @@ fn sent_behind(ms: [Message; 128], w: u32, o: Outbox) -> [Message; 128]
     let mut out = ms;
     let mut i = to.first;
     while i < last {
-        out[i] = message_sent(o, i - rest);
+        let k = i - rest;
+        out[i] = message_sent(o.messages[k], k, o.count);
         i += 1;
     }
     out

@@ -206,7 +206,8 @@ pub fn put_turns(s: &[u8], r: Progress, out: &mut [u8], start: usize, most: u32)
             q += 1;
         }
         while q < last {
-            ms[q] = message_sent(sent, q - rest);
+            let from = q - rest;
+            ms[q] = message_sent(sent.messages[from], from, sent.count);
             q += 1;
         }
         w.waiting = to.waiting;

@@ -1,9 +1,9 @@
 use mathlib.Core.Bool.{false}
-use Prim.Native.Nat.{_-_}
+use Prim.Native.Nat.{_-_, _<_}
 use native.Mathlib.Omega.{arith}
 use borrow.Author.Needs.{needs}
 use Rattle.outbox.proofs.Laws.{length-mapped}
-use Rattle.cable.proofs.Laws.{moving-span, moving-done, Sending, sending-start, sending-more}
+use Rattle.cable.proofs.Laws.{moving-span, moving-done, sent-few, Sending, sending-start, sending-more}
 use Rattle.cable.proofs.sent_behind.Statement.{statement}
 use Rattle.cable.proofs.sent_behind.Tie as tie
 
@@ -20,26 +20,32 @@ span-of-requires c κs = (c .pre .0, c .pre .1, λ t. absurd t)
 loop-holds : tie.Need-loop-holds Inv-loop μ-loop
 loop-holds c = sending-start (rw (c .span-of .ensures) (omega arith))
 
-sub-message-sent : tie.Need-sub-message-sent Inv-loop μ-loop
-sub-message-sent c = c .before .loop .inv .behind
+sub-k : tie.Need-sub-k Inv-loop μ-loop
+sub-k c = c .before .loop .inv .behind
+
+mul-message-sent : tie.Need-mul-message-sent Inv-loop μ-loop
+mul-message-sent c = omega (arith, sent-few 0 (c .before .before .before .args .w) false (c .before .before .before .args .t3 .count) (c .before .before .span-of .ensures) (c .before .before .before .pre .1) (c .loop-test .taken))
+
+element-copy-out-message-sent : tie.Need-element-copy-out-message-sent Inv-loop μ-loop
+element-copy-out-message-sent c = omega (arith, sent-few 0 (c .before .before .before .args .w) false (c .before .before .before .args .t3 .count) (c .before .before .span-of .ensures) (c .before .before .before .pre .1) (c .loop-test .taken))
 
 message-sent-requires : tie.Need-message-sent-requires Inv-loop μ-loop
-message-sent-requires c κs = c .before .before .before .pre .1
+message-sent-requires c κs = search needs
 
 mul-out : tie.Need-mul-out Inv-loop μ-loop
-mul-out c = omega (arith, rw (c .before .before .before .span-of .ensures) at (c .before .loop-test .taken))
+mul-out c = omega (arith, rw (c .before .before .before .before .span-of .ensures) at (c .before .before .loop-test .taken))
 
 array-set-from-out : tie.Need-array-set-from-out Inv-loop μ-loop
-array-set-from-out c = omega (arith, rw (c .before .before .before .span-of .ensures) at (c .before .loop-test .taken))
+array-set-from-out c = omega (arith, rw (c .before .before .before .before .span-of .ensures) at (c .before .before .loop-test .taken))
 
 add-i : tie.Need-add-i Inv-loop μ-loop
-add-i c = omega (arith, rw (c .before .before .before .span-of .ensures) at (c .before .loop-test .taken))
+add-i c = omega (arith, rw (c .before .before .before .before .span-of .ensures) at (c .before .before .loop-test .taken))
 
 loop-less : tie.Need-loop-less Inv-loop μ-loop
-loop-less c = omega (arith, rw (c .before .before .before .span-of .ensures) at (c .before .loop-test .taken))
+loop-less c = omega (arith, rw (c .before .before .before .before .span-of .ensures) at (c .before .before .loop-test .taken))
 
 loop-again : tie.Need-loop-again Inv-loop μ-loop
-loop-again c = sending-more (c .before .before .loop .inv) (c .before .loop-test .taken) (c .message-sent .ensures)
+loop-again c = sending-more (c .before .before .before .loop .inv) (c .before .before .loop-test .taken) (c .message-sent .ensures)
 
 returns : tie.Need-returns Inv-loop μ-loop
 returns c =
@@ -54,7 +60,9 @@ sent-behind-spec =
     μ-loop
     span-of-requires
     loop-holds
-    sub-message-sent
+    sub-k
+    mul-message-sent
+    element-copy-out-message-sent
     message-sent-requires
     mul-out
     array-set-from-out

@@ -14,7 +14,7 @@ use denote.Ref.{now}
 use Rattle.rules.specs.Parts.{noClient, noMessage}
 use Rattle.world.specs.Apart.{facadeOf}
 use Rattle.world.proofs.Laws.{place-low, next-high, waiting-high}
-use Rattle.cable.proofs.Laws.{Moving, moving-span, moving-high, moving-up, moving-done, Sending, sending-start, sending-more}
+use Rattle.cable.proofs.Laws.{Moving, moving-span, moving-high, moving-up, moving-done, sent-few, Sending, sending-start, sending-more}
 use Rattle.turns.specs.Turns.{linesFrom, progressFrom}
 use Rattle.turns.proofs.Turns.{as-read, whether-ended, Going, none-left, last-put, goes-round, done}
 use Rattle.turns.proofs.Doing.{Did, Turn, c-ok, did-rest, passed-fits, did-pass, noticed-fits, served-offset, served-fits, served-low, few-sent, serves-full, did-serve, asked-fits, asked-low, few-said, asks-full, did-ask, asked-of, span-fits, all-put, held-by}
@@ -243,26 +243,32 @@ loop2-again c = moving-up (c .before .before .loop2 .inv) (c .before .loop2-test
 loop3-holds : tie.Need-loop3-holds Inv-loop2 μ-loop2 Inv-loop3 μ-loop3 Inv-loop μ-loop
 loop3-holds c = sending-start (c .loop2-test .left)
 
-sub-message-sent : tie.Need-sub-message-sent Inv-loop2 μ-loop2 Inv-loop3 μ-loop3 Inv-loop μ-loop
-sub-message-sent c = c .before .loop3 .inv .behind
+sub-from : tie.Need-sub-from Inv-loop2 μ-loop2 Inv-loop3 μ-loop3 Inv-loop μ-loop
+sub-from c = c .before .loop3 .inv .behind
+
+mul-message-sent : tie.Need-mul-message-sent Inv-loop2 μ-loop2 Inv-loop3 μ-loop3 Inv-loop μ-loop
+mul-message-sent c = omega (arith, sent-few _ (c .before .before .before .before .before .match .w .waiting) (c .before .before .before .before .before .match .taken) (c .before .before .before .before .before .match .sent .count) (c .before .before .before .before .span-of .ensures) ((did (c .before .before .before .before .before)) .few) (c .loop3-test .taken))
+
+element-copy-out-message-sent : tie.Need-element-copy-out-message-sent Inv-loop2 μ-loop2 Inv-loop3 μ-loop3 Inv-loop μ-loop
+element-copy-out-message-sent c = omega (arith, sent-few _ (c .before .before .before .before .before .match .w .waiting) (c .before .before .before .before .before .match .taken) (c .before .before .before .before .before .match .sent .count) (c .before .before .before .before .span-of .ensures) ((did (c .before .before .before .before .before)) .few) (c .loop3-test .taken))
 
 message-sent-requires : tie.Need-message-sent-requires Inv-loop2 μ-loop2 Inv-loop3 μ-loop3 Inv-loop μ-loop
-message-sent-requires c κs = (did (c .before .before .before .before .before)) .few
+message-sent-requires c κs = tt
 
 mul-ms-3 : tie.Need-mul-ms-3 Inv-loop2 μ-loop2 Inv-loop3 μ-loop3 Inv-loop μ-loop
-mul-ms-3 c = omega (arith, c .before .loop3-test .taken, c .before .before .before .before .loop2 .inv .end, (c .before .before .loop3 .inv .on (c .before .before .before .before .loop2 .inv)) .size)
+mul-ms-3 c = omega (arith, c .before .before .loop3-test .taken, c .before .before .before .before .before .loop2 .inv .end, (c .before .before .before .loop3 .inv .on (c .before .before .before .before .before .loop2 .inv)) .size)
 
 array-set-from-ms-2 : tie.Need-array-set-from-ms-2 Inv-loop2 μ-loop2 Inv-loop3 μ-loop3 Inv-loop μ-loop
-array-set-from-ms-2 c = omega (arith, c .before .loop3-test .taken, c .before .before .before .before .loop2 .inv .end, (c .before .before .loop3 .inv .on (c .before .before .before .before .loop2 .inv)) .size)
+array-set-from-ms-2 c = omega (arith, c .before .before .loop3-test .taken, c .before .before .before .before .before .loop2 .inv .end, (c .before .before .before .loop3 .inv .on (c .before .before .before .before .before .loop2 .inv)) .size)
 
 add-q-2 : tie.Need-add-q-2 Inv-loop2 μ-loop2 Inv-loop3 μ-loop3 Inv-loop μ-loop
-add-q-2 c = omega (arith, c .before .loop3-test .taken, c .before .before .before .before .loop2 .inv .end, (c .before .before .loop3 .inv .on (c .before .before .before .before .loop2 .inv)) .size)
+add-q-2 c = omega (arith, c .before .before .loop3-test .taken, c .before .before .before .before .before .loop2 .inv .end, (c .before .before .before .loop3 .inv .on (c .before .before .before .before .before .loop2 .inv)) .size)
 
 loop3-less : tie.Need-loop3-less Inv-loop2 μ-loop2 Inv-loop3 μ-loop3 Inv-loop μ-loop
-loop3-less c = omega (arith, c .before .loop3-test .taken, c .before .before .before .before .loop2 .inv .end, (c .before .before .loop3 .inv .on (c .before .before .before .before .loop2 .inv)) .size)
+loop3-less c = omega (arith, c .before .before .loop3-test .taken, c .before .before .before .before .before .loop2 .inv .end, (c .before .before .before .loop3 .inv .on (c .before .before .before .before .before .loop2 .inv)) .size)
 
 loop3-again : tie.Need-loop3-again Inv-loop2 μ-loop2 Inv-loop3 μ-loop3 Inv-loop μ-loop
-loop3-again c = sending-more (c .before .before .loop3 .inv) (c .before .loop3-test .taken) (c .message-sent .ensures)
+loop3-again c = sending-more (c .before .before .before .loop3 .inv) (c .before .before .loop3-test .taken) (c .message-sent .ensures)
 
 put-record-line-requires : tie.Need-put-record-line-requires Inv-loop2 μ-loop2 Inv-loop3 μ-loop3 Inv-loop μ-loop
 put-record-line-requires c κs =
@@ -349,7 +355,9 @@ put-turns-spec =
     loop2-less
     loop2-again
     loop3-holds
-    sub-message-sent
+    sub-from
+    mul-message-sent
+    element-copy-out-message-sent
     message-sent-requires
     mul-ms-3
     array-set-from-ms-2
