@@ -1,6 +1,6 @@
 // Leaves on tests and numbers, each proved once: refusals, bounds, offsets and clocks.
 ghost use mathlib.Core.Path.{_≡_};
-ghost use Prim.Native.Nat.{_≤_, _<_, max};
+ghost use Prim.Native.Nat.{_≤_, max};
 ghost use lib.IntN.{natAbs, _+ℤ_};
 ghost use Rattle.rules.specs.Conditions.{_and_, _or_, isWithin, unless as unless′};
 ghost use Rattle.rules.specs.Clock.{clockReading, notNegative, asSigned};

@@ -246,8 +246,8 @@ module _ {ms : List Message} {p n : ℕ} {taken : Bool} {o : Outbox} {rest last 
           m .left j (omega arith)
           ∙ sym (exchanged-behind ms p n taken o inside (m .there) j (omega (arith, m .end)) (omega (arith, m .stay, m .end)))
 
--- The second loop, from place i₀ of out₀ on. Where both stand in one function its invariant can name what the first one left, and no longer
--- the messages from before: of whichever ms the first held so far, the second does.
+-- The second loop, from place i₀ of out₀ on. Where both stand in one function its invariant can name what the first one left,
+-- and no longer the messages from before: of whichever ms the first held so far, the second does.
 pub record Sending (p n : ℕ) (taken : Bool) (o : Outbox) (rest last i₀ : ℕ) (out₀ : List Message) (i : ℕ) (out : List Message) : Type 0 where
   pub behind : rest ≤ i
   pub on : {ms : List Message} → Moving ms p n taken o rest last i₀ out₀ → Moving ms p n taken o rest last i out

@@ -11,9 +11,13 @@ use Rattle.rules.specs.Steps.{hasRoom}
 abbrev pub restOf : ℕ → Bool → ℕ
 restOf n taken = cond taken (n - 1) n
 
--- so many more find room behind them
+-- how many wait then, where so many more are sent
+abbrev pub waitingThen : ℕ → Bool → ℕ → ℕ
+waitingThen n taken count = restOf n taken + count
+
+-- and whether they find room
 abbrev pub roomFor : ℕ → Bool → ℕ → Bool
-roomFor n taken count = hasRoom (restOf n taken + count)
+roomFor n taken count = hasRoom (waitingThen n taken count)
 
 -- of n waiting messages that at p is taken out if `taken`, and what o holds waits behind the rest
 abbrev pub exchanged : List Message → ℕ → ℕ → Bool → Outbox → List Message

@@ -4,7 +4,7 @@ use Prim.Native.Nat.{ℕ, _+_, min, max}
 use lib.Dec.{ltb}
 use Rattle.types.specs.declared.Message.{Message}
 use Rattle.rules.specs.Parts.{noMessage}
-use Rattle.cable.specs.Exchange.{restOf}
+use Rattle.cable.specs.Exchange.{restOf, waitingThen}
 use Rattle.cable.specs.declared.Span.{Span}
 
 -- the first place that changes: that of the message at p, if it is taken out, or that behind the n that wait
@@ -21,7 +21,7 @@ spanOf p n taken count = record {
   first = firstOf p n taken;
   rest = restOf n taken;
   last = endOf n (restOf n taken) count;
-  waiting = restOf n taken + count;
+  waiting = waitingThen n taken count;
 }
 
 -- what the k-th place behind the rest holds: message m, which is the one at k of an outbox of so many, or no message

@@ -7,8 +7,8 @@ use Rattle.types.specs.declared.Decision.{Decision}
 use Rattle.rules.specs.Views.{View}
 use Rattle.rules.specs.Steps.{Action, broken, deedOf, takesOut}
 
--- step x, where m is the message at the position that it names: the number of the first rule that is broken, and nothing happens; or what
--- happens, unless there is no room for what is sent
+-- step x, where m is the message at the position that it names: the number of the first rule that is broken, and nothing
+-- happens; or what happens, unless there is no room for what is sent
 unfoldable pub decided : View → Message → Action → Decision
 decided v m x =
     cond (eqb (broken v x 0) 0)

@@ -15,7 +15,7 @@ use Rattle.types.specs.declared.ServerEvent.the-variants.{Fails, Returns, Notic
 use Rattle.types.specs.declared.Deed.{Deed}
 use Rattle.types.specs.declared.Deed.the-variants.{Rests, Passes, Serves, Asks}
 use Rattle.rules.specs.Clock.{clockReading}
-use Rattle.rules.specs.Parts.{offsetOf, parties, clockOf, clientParty}
+use Rattle.rules.specs.Parts.{parties, clockOf, clientParty}
 use Rattle.rules.specs.Ranges.{isServer, bodyInRange, lastTime}
 use Rattle.rules.specs.Steps.{serverAfter, clientAfter}
 
@@ -37,10 +37,6 @@ DeedInRange w (Asks i e) = i < w .config .clients
 -- server k, whose clock is ahead by o, after an event at true time t: s is the server
 abbrev pub servedAt : Config → ℕ → ℤ → ℕ → Server → ServerEvent → ServerAnswer
 servedAt c t o k s e = serverAfter c t k (clockReading t o) s e
-
--- the same of a server of world w
-abbrev pub servedIn : World → ℕ → Server → ServerEvent → ServerAnswer
-servedIn w k s e = servedAt (w .config) (w .time) (offsetOf (w .offsets) k) k s e
 
 -- client i of world w after an event: y is the client
 abbrev pub askedIn : World → ℕ → Client → ClientEvent → ClientAnswer

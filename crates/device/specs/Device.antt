@@ -1,9 +1,10 @@
 -- What a device answers: one server or one client on its own, to whatever it is called with.
 -- c is the configuration, r its clock reading; k and s are a server's number and value, i and y a client's.
--- A device knows neither true time nor the next interaction, so the widest bounds are taken: the last time, and the interaction after the last.
+-- A device knows neither true time nor the next interaction, so the widest bounds are taken: the last time, and the
+-- interaction after the last.
 use mathlib.Core.Bool.{Bool, true, cond}
 use mathlib.Core.List.{[]}
-use Prim.Native.Nat.{ℕ, _+_}
+use Prim.Native.Nat.{ℕ}
 use lib.Dec.{leb, ltb, eqb}
 use Rattle.types.specs.declared.Config.{Config}
 use Rattle.types.specs.declared.Server.{Server}
@@ -26,8 +27,8 @@ use Rattle.device.specs.declared.ClientReply.{ClientReply}
 
 -- The refusals: those of the paper that a device can tell by what it is handed.
 
--- What the rules see from a device: its configuration, the interaction q that it is handed, and a client's state x. Whether a server is alive is the
--- facade's to say, so every server counts as alive. Nothing else is looked at.
+-- What the rules see from a device: its configuration, the interaction q that it is handed, and a client's state x. Whether a
+-- server is alive is the facade's to say, so every server counts as alive. Nothing else is looked at.
 abbrev pub seen : Config → ℕ → State → View
 seen c q x = record {
   world = record { config = c; time = 0; next = q; offsets = []; notices = []; waiting = 0 };
@@ -46,7 +47,8 @@ deviceRefusal fits v x =
     (unless (interactionLeft v x) 12
     0))))
 
--- the same of a message, a return, a cleanup and time that passes, which name only the device itself: "A named .. server, client .. does not exist"
+-- the same of a message, a return, a cleanup and time that passes, which name only the device itself: "A named .. server,
+-- client .. does not exist"
 unfoldable pub ownRefusal : Bool → Bool → ℕ
 ownRefusal fits there = unless fits 2 (unless there 6 0)
 

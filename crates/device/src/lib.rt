@@ -1,4 +1,5 @@
-// What the firmware of one server, or of one client, calls. Nothing is trusted: what is refused, by the paper's number, changes and sends nothing.
+// What the firmware of one server, or of one client, calls. Nothing is trusted: what is refused, by the paper's number,
+// changes and sends nothing.
 // c is the configuration, r the clock reading; k and s are a server's number and value, i and y a client's.
 use arith::both;
 use arith::unless;
@@ -16,6 +17,7 @@ use types::Action;
 use types::Client;
 use types::ClientAnswer;
 use types::Config;
+use types::LAST_INTERACTION;
 use types::LAST_READING;
 use types::LAST_TIME;
 use types::Message;
@@ -208,7 +210,7 @@ pub fn device_discovers(c: Config, i: u32, r: u32, y: Client, q: u32) -> ClientR
     let x = y.state;
     let fits = both(client_fits(c, r, x), 1 <= q);
     let holds = is_holding(x);
-    let below = client_barred(c, i, !holds, q <= 1000000);
+    let below = client_barred(c, i, !holds, q <= LAST_INTERACTION);
     let n = first_refusal(fits, Action::Discover(i), below);
     if n != 0 {
         return client_refused(y, n);
@@ -236,7 +238,7 @@ pub fn device_renews(c: Config, i: u32, r: u32, y: Client, t: u32, q: u32) -> Cl
     let x = y.state;
     let fits = both(client_fits(c, r, x), 1 <= q);
     let holds = is_holding(x);
-    let below = client_barred(c, i, holds, q <= 1000000);
+    let below = client_barred(c, i, holds, q <= LAST_INTERACTION);
     let n = first_refusal(fits, Action::Renew(i, t), below);
     if n != 0 {
         return client_refused(y, n);

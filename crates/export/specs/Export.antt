@@ -1,5 +1,6 @@
--- What programs in other languages are given: fresh, step, verdict, writer and run on lists of numbers. A list of the wrong length, and one
--- with a number that codes nothing, is refused with 2: "A number of a configuration or of a facade handed in is outside its range."
+-- What programs in other languages are given: fresh, step, verdict, writer and run on lists of numbers. A list of the wrong
+-- length, and one with a number that codes nothing, is refused with 2: "A number of a configuration or of a facade handed in is
+-- outside its range."
 -- A refusal leaves every list as it was, and the outcome or length is 0.
 use mathlib.Core.Bool.{Bool, cond}
 use mathlib.Core.List.{List}

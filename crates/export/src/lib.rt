@@ -11,6 +11,7 @@ use types::Step;
 ghost use mathlib.Core.Path.{_≡_};
 ghost use mathlib.Core.Bool.{true};
 ghost use lib.ListN.{length};
+ghost use Rattle.rules.specs.Steps.{stepOf};
 ghost use Rattle.flat.specs.Flat.{codesFacade};
 ghost use Rattle.script.specs.Reading.{verdict as verdict′};
 ghost use Rattle.replay.specs.Output.{outputLength, outputInto};
@@ -48,9 +49,9 @@ pub extern "C" fn hoyllaqe_step(
     third: u32,
     outcome: &mut u32,
 ) -> u32
-    ensures { λ r. ⌜ r ≡ steppedRefusal (now (facade .entry)) (record { kind = kind; first = first; second = second; third = third }) ⌝ }
-    ensures { λ _. ⌜ now (facade .exit) ≡ steppedNumbers (now (facade .entry)) (record { kind = kind; first = first; second = second; third = third }) ⌝ }
-    ensures { λ _. ⌜ now (outcome .exit) ≡ steppedOutcome (now (facade .entry)) (record { kind = kind; first = first; second = second; third = third }) ⌝ }
+    ensures { λ r. ⌜ r ≡ steppedRefusal (now (facade .entry)) (stepOf kind first second third) ⌝ }
+    ensures { λ _. ⌜ now (facade .exit) ≡ steppedNumbers (now (facade .entry)) (stepOf kind first second third) ⌝ }
+    ensures { λ _. ⌜ now (outcome .exit) ≡ steppedOutcome (now (facade .entry)) (stepOf kind first second third) ⌝ }
     ensures { λ r. ⌜ (r ≡ 0 → codesFacade (now (facade .exit)) ≡ true) ⌝ }
 {
     *outcome = 0;

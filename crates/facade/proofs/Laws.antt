@@ -1,6 +1,6 @@
 -- A step of a facade taken apart: what is at hand of it is what the rules look at, and what happens, put in, is the step.
 use mathlib.Core.Path.{_≡_, refl, sym, ap, _∙_}
-use mathlib.Core.Bool.{Bool, true, false, not, cond}
+use mathlib.Core.Bool.{Bool, true, false, not}
 use mathlib.Core.List.{List, [], _∷_}
 use Prim.Native.Nat.{ℕ, zero, suc, _+_, _-_, _≤_, _<_}
 use native.Mathlib.Omega.{arith}
@@ -30,7 +30,7 @@ use Rattle.types.specs.declared.World.{World}
 use Rattle.types.specs.declared.Lives.{Lives}
 use Rattle.rules.specs.Conditions.{_and_, isWithin, unless, all}
 use Rattle.rules.specs.Clock.{asSigned}
-use Rattle.rules.specs.Parts.{noServer, noClient, noMessage, messageAt}
+use Rattle.rules.specs.Parts.{noServer, noClient, noMessage, messageAt, offsetOf}
 use Rattle.rules.specs.Messages.{nothing, sentBehind, withoutIf}
 use Rattle.rules.specs.Ranges.{inRange, isServer, messageInRange, Sound}
 use Rattle.rules.specs.Server.{noticed, cleaned}
@@ -46,7 +46,7 @@ use Rattle.world.specs.Apart.{facadeOf, livesOf, placeBelow}
 use Rattle.world.proofs.Laws.{place-named, sizes, waiting-high}
 use Rattle.cable.specs.Exchange.{restOf, roomFor, exchanged}
 use Rattle.decisions.specs.Decided.{decided}
-use Rattle.deeds.specs.Deeds.{eventInRange, DeedInRange, servedIn, askedIn}
+use Rattle.deeds.specs.Deeds.{eventInRange, DeedInRange, servedAt, askedIn}
 use Rattle.facade.specs.Settled.{nextIn, noticesIn, waitingIn, settled, unlessFull}
 
 -- The kinds of step.
@@ -304,7 +304,7 @@ module _ (w : World) (ss : List Server) (ys : List Client) (ms : List Message) (
   passes-is true d q e h k = rw (k, h, none-more (w .waiting - 1))
   passes-is false d q e h k = rw (k, h, none-more (w .waiting))
 
-  pub serves-is : (b : Bool) (k : ℕ) (e : ServerEvent) {z : ServerAnswer} {ts : List ℕ} → z ≡ servedIn w k (getD ss k noServer) e
+  pub serves-is : (b : Bool) (k : ℕ) (e : ServerEvent) {z : ServerAnswer} {ts : List ℕ} → z ≡ servedAt (w .config) (w .time) (offsetOf (w .offsets) k) k (getD ss k noServer) e
       → ts ≡ noticesAfter (w .notices) (w .time) k e → enacted (out b) (Serves k e) ≡ settled (noticesIn w ts) (set ss k (z .server)) ys ms p b (z .outbox) (z .outcome)
   unfolding enacted
   serves-is true k e h j = rw (h, j)

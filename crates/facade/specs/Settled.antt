@@ -1,7 +1,7 @@
 -- What a step leaves, of a facade taken apart.
 use mathlib.Core.Bool.{Bool}
 use mathlib.Core.List.{List}
-use Prim.Native.Nat.{ℕ, _+_}
+use Prim.Native.Nat.{ℕ}
 use Rattle.types.specs.declared.Server.{Server}
 use Rattle.types.specs.declared.Client.{Client}
 use Rattle.types.specs.declared.Message.{Message}
@@ -11,7 +11,7 @@ use Rattle.types.specs.declared.World.{World}
 use Rattle.types.specs.declared.Outbox.{Outbox}
 use Rattle.rules.specs.Steps.{accepted, full, unlessRefused}
 use Rattle.world.specs.Apart.{facadeOf}
-use Rattle.cable.specs.Exchange.{restOf, exchanged}
+use Rattle.cable.specs.Exchange.{exchanged, waitingThen}
 
 -- a world with another next κ
 abbrev pub nextIn : World → ℕ → World
@@ -46,10 +46,10 @@ waitingIn w n = record {
   waiting = n;
 }
 
--- the world w, but for its waiting count, the servers ss and the clients ys are as after the step; of the messages ms that at p is taken
--- out if `taken`, and what o holds waits behind the rest
+-- the world w, but for its waiting count, the servers ss and the clients ys are as after the step; of the messages ms that at
+-- p is taken out if `taken`, and what o holds waits behind the rest
 abbrev pub settled : World → List Server → List Client → List Message → ℕ → Bool → Outbox → ℕ → Answer
-settled w ss ys ms p taken o n = accepted (facadeOf (waitingIn w (restOf (w .waiting) taken + o .count)) ss ys (exchanged ms p (w .waiting) taken o)) n
+settled w ss ys ms p taken o n = accepted (facadeOf (waitingIn w (waitingThen (w .waiting) taken (o .count))) ss ys (exchanged ms p (w .waiting) taken o)) n
 
 -- the answer a of a step of facade f, unless it is refused with 13
 unfoldable pub unlessFull : Facade → Answer → Answer

@@ -1,5 +1,6 @@
--- What the firmware of one server, or of one client, links: each function of a device on lists of numbers. A list of the wrong length, and one with a
--- number that codes nothing, is refused with 2: "A number of a configuration or of a facade handed in is outside its range."
+-- What the firmware of one server, or of one client, links: each function of a device on lists of numbers. A list of the wrong
+-- length, and one with a number that codes nothing, is refused with 2: "A number of a configuration or of a facade handed in is
+-- outside its range."
 -- A refusal leaves every list as it was, with outcome 0.
 -- c, s, y and m are the lists of the configuration, the server, the client and the message; o is the list for what is sent.
 -- k is a server's number, i a client's, r the clock reading.

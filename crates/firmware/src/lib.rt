@@ -1,5 +1,6 @@
-// What the firmware of one server, or of one client, links: the functions of crate `device` on numbers and slices. Nothing is trusted: a list
-// of the wrong length, and one with a number that codes nothing, is refused with 2. A refusal leaves every list as it was, and gives outcome 0.
+// What the firmware of one server, or of one client, links: the functions of crate `device` on numbers and slices. Nothing is
+// trusted: a list of the wrong length, and one with a number that codes nothing, is refused with 2. A refusal leaves every list
+// as it was, and gives outcome 0.
 use arith::both;
 use device::ClientReply;
 use device::ServerReply;

@@ -50,7 +50,7 @@ offsetNumbers z = plain (complement z)
 abbrev pub offsetIn : List ℕ → ℕ → ℤ
 offsetIn l p = asSigned (numberIn l p)
 
--- "the configuration: S, C, A, Δ, ν, μ, θ"
+-- "the configuration: servers S, clients C, addresses A, skew Δ, detection ν, mclt μ, retention θ"
 
 unfoldable pub configNumbers : Config → List ℕ
 configNumbers c = c .servers ∷ c .clients ∷ c .addresses ∷ c .skew ∷ c .detection ∷ c .mclt ∷ c .retention ∷ []
@@ -226,7 +226,8 @@ facadeIn l = record {
   waiting = numberIn l 9;
 }
 
--- Which lists code something: "Every facade, its unused places too, has exactly one flat form, and a list that is no facade's flat form codes nothing."
+-- Which lists code something: "Every facade, its unused places too, has exactly one flat form, and a list that is no facade's
+-- flat form codes nothing."
 
 abbrev pub codesFacade : List ℕ → Bool
 codesFacade = codes facadeNumbers facadeIn 2778

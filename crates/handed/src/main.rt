@@ -1,6 +1,8 @@
-// Takes a step of each stored list that is handed in as a facade. Prints for each its number, the refusal, the outcome, and the place and
-// the new value of each number that changed. Standard input has how many lists there are, then for each how many of its numbers are not 0,
-// the place and the value of each of them, its length, at most 2,800, and the four numbers of the step; numbers are four bytes, big-endian.
+// Takes a step of each stored list that is handed in as a facade. Prints for each its number, the refusal, the outcome, and
+// the place and the new value of each number that changed. Standard input has how many lists there are, then for each how many
+// of its numbers are not 0,
+// the place and the value of each of them, its length, at most 2,800, and the four numbers of the step; numbers are four
+// bytes, big-endian.
 use libc::STDIN_FILENO;
 use libc::STDOUT_FILENO;
 ghost use mathlib.Core.Path.{_≡_};

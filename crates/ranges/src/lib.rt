@@ -18,7 +18,7 @@ use types::Reserved;
 use types::Server;
 use types::State;
 ghost use mathlib.Core.Path.{_≡_};
-ghost use Prim.Native.Nat.{_+_, _≤_, _<_};
+ghost use Prim.Native.Nat.{_≤_, _<_};
 ghost use Rattle.rules.specs.Conditions.{_and_, all};
 ghost use Rattle.rules.specs.Parts.{serverAt, stateAt, messageAt, offsetAt, parties};
 ghost use Rattle.rules.specs.Ranges.{configInRange, interactionInRange, offsetInRange, reservationInRange, writeInRange, addressInRange, serverInRange, noticeInRange, stateInRange, isClient, bodyInRange, messageInRange, inRange};

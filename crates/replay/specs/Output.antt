@@ -1,4 +1,5 @@
--- What the rig prints for a script, as bytes: "`facade S C A`", then the lines of the records and the last line (`Turns` of crate `turns`).
+-- What the rig prints for a script, as bytes: "`facade S C A`", then the lines of the records and the last line (`Turns` of
+-- crate `turns`).
 -- "Refusals 1 and 2 print only `0 1 0 0 0` or `0 2 0 0 0`."
 use mathlib.Core.Bool.{not, cond}
 use mathlib.Core.List.{List, [], _++_}

@@ -15,6 +15,12 @@ ghost use Rattle.wire.specs.Numbers.{over};
 ghost use Rattle.turns.specs.Turns.{linesFrom, progressFrom, UnderWay};
 ghost use Rattle.replay.specs.Output.{firstLine, beginning, outputLength, outputInto, pieceTurns, mostPiece};
 
+// How many turns a piece has.
+const PIECE_TURNS: u32 = 2048;
+
+// Room for any output.
+const MOST_OUTPUT: usize = 1048576;
+
 // The first line of a script's run. The run has ended where the header is refused.
 pub fn begin(s: &[u8], out: &mut [u8]) -> Piece
     requires { ⌜ mostPiece ≤ length (now out) ⌝ }
@@ -50,7 +56,7 @@ pub fn go_on(s: &[u8], r: Progress, out: &mut [u8]) -> Piece
     ensures { λ x. ⌜ (x .progress ≡ progressFrom pieceTurns (r .facade) (now (s .entry)) (r .place) (r .number)) × UnderWay (now (s .entry)) (x .progress) × (x .end ≡ length (linesFrom pieceTurns (r .facade) (now (s .entry)) (r .place) (r .number))) ⌝ }
     ensures { λ _. ⌜ now (out .exit) ≡ over (now (out .entry)) 0 (linesFrom pieceTurns (r .facade) (now (s .entry)) (r .place) (r .number)) ⌝ }
 {
-    put_turns(s, r, out, 0, 2048)
+    put_turns(s, r, out, 0, PIECE_TURNS)
 }
 
 // Runs a script and answers how long its output is, which is put at the front of the buffer. A buffer of less than
@@ -59,7 +65,7 @@ pub fn put_output(s: &[u8], out: &mut [u8]) -> usize
     ensures { λ r. ⌜ r ≡ outputLength (now (s .entry)) (length (now (out .entry))) ⌝ }
     ensures { λ _. ⌜ now (out .exit) ≡ outputInto (now (s .entry)) (now (out .entry)) ⌝ }
 {
-    if out.len() < 1048576 {
+    if out.len() < MOST_OUTPUT {
         return 0;
     }
     let first = begin(s, out);

@@ -15,7 +15,7 @@ use Rattle.types.specs.declared.ServerAnswer.{ServerAnswer}
 use Rattle.types.specs.declared.BindingAnswer.{BindingAnswer}
 use Rattle.types.specs.declared.ClientAnswer.{ClientAnswer}
 use Rattle.rules.specs.Conditions.{_and_}
-use Rattle.rules.specs.Parts.{message, clientParty, leadsAt, writeAt, bindingAt}
+use Rattle.rules.specs.Parts.{message, clientParty}
 use Rattle.rules.specs.Messages.{nothing, post}
 use Rattle.rules.specs.Server.{writtenEnd, ackEnd, offerable, offered, onDiscover, granted, grantable, onRequest, onRenew, onWrite, matchesWrite, onWriteAck, handledAt, serverHandles, serverReceives}
 use Rattle.rules.specs.Client.{isHolding, broadcast, discovers, requests, renews, asksWith, onOffer, expects, onAck, clientHandles, clientReceives}

@@ -22,11 +22,11 @@ use Rattle.types.specs.declared.Message.{Message}
 use Rattle.types.specs.declared.Facade.{Facade}
 use Rattle.types.specs.declared.Outbox.{Outbox}
 use Rattle.types.specs.declared.ServerAnswer.{ServerAnswer}
-use Rattle.rules.specs.Conditions.{_and_, all, lowest}
+use Rattle.rules.specs.Conditions.{_and_, all}
 use Rattle.rules.specs.Parts.{noServer, noWrite, serverAt, clock, clientParty, message, leadsAt, lentAt, potleaseAt, writeAt, bindingAt, withReserved, withBinding, withReservation, withLease}
 use Rattle.rules.specs.Ranges.{isClient, bodyInRange, messageInRange}
 use Rattle.rules.specs.Messages.{nothing}
-use Rattle.rules.specs.Server.{answer, bindingAnswer, atAddress, closed, opened, reservationsBy, expirySlack, hasPassed, offerable, offered, onDiscover, addressFor, addressOf, handledAt, isRequest, writtenEnd, ackEnd, granted, freedIfOf, dropped, grantable, onRequest, onRenew, onWrite, matchesWrite, acknowledged, onWriteAck, serverHandles, serverReceives}
+use Rattle.rules.specs.Server.{answer, bindingAnswer, atAddress, closed, opened, reservationsBy, expirySlack, hasPassed, offerable, offered, onDiscover, addressFor, handledAt, isRequest, writtenEnd, ackEnd, granted, freedIfOf, dropped, grantable, onRequest, onRenew, onWrite, matchesWrite, acknowledged, onWriteAck, serverHandles, serverReceives}
 use Rattle.rules.proofs.Laws.{Or, inl, inr, and-l, and-r, cond-case, all-at, set-case, set-any, rep-ind}
 use Rattle.rules.proofs.Cable.{Waits, Posted, ToServer, posted-nothing, posted-one, posted-others}
 use Rattle.rules.proofs.Kept.{address-low, Configured, configured, Ranged}

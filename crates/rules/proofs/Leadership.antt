@@ -22,11 +22,11 @@ use Rattle.types.specs.declared.ServerAnswer.{ServerAnswer}
 use Rattle.types.specs.declared.BindingAnswer.{BindingAnswer}
 use Rattle.rules.specs.Conditions.{_and_, all}
 use Rattle.rules.specs.Clock.{clockReading}
-use Rattle.rules.specs.Parts.{noServer, believes, leadsAt, serverAt, messageAt, offsetAt, clock, noticeAt, parties, writeAt, bindingAt, withLife, withLeading, withMessages}
+use Rattle.rules.specs.Parts.{noServer, believes, leadsAt, serverAt, messageAt, offsetAt, clock, noticeAt, parties, bindingAt, withLife, withLeading, withMessages}
 use Rattle.rules.specs.Ranges.{offsetInRange, isServer}
 use Rattle.rules.specs.Messages.{removed, without}
 use Rattle.rules.specs.Order.{rank, isFirst}
-use Rattle.rules.specs.Server.{atAddress, leadDelay, leadsAfter, leadingWith, noticed, afterReturn, cleaned, offerable, offered, onDiscover, granted, dropped, grantable, onRequest, onRenew, onWrite, matchesWrite, acknowledged, onWriteAck, handledAt, isRequest, readied, addressOf, serverHandles, serverReceives}
+use Rattle.rules.specs.Server.{atAddress, leadDelay, leadsAfter, leadingWith, noticed, afterReturn, cleaned, offerable, offered, onDiscover, granted, dropped, grantable, onRequest, onRenew, onWrite, matchesWrite, acknowledged, onWriteAck, handledAt, isRequest, addressOf, serverHandles, serverReceives}
 use Rattle.rules.specs.Steps.{Action, pass, fail, return, notice, discover, request, renew, deliver, lose, cleanup, unknown, fresh, exists, ofPass, clockAllows, inTouch, ofNotice, isCredible, rowNow, lapse, delivered, deedOf, takesOut, takenOut, enacted, serverAfter, noticesAfter, clientAfter, nextAfter, effect, holdsEnded, lapsedAt}
 use Rattle.types.specs.declared.Deed.{Deed}
 use Rattle.rules.proofs.Laws.{and-l, and-r, or-elim, clash, not-eqb, cond-case, all-at, set-case, set-any, rep-ind, rep-true, rep-false, length-filled, filled-at}

@@ -32,7 +32,7 @@ use Rattle.types.specs.declared.Answer.{Answer}
 use Rattle.types.specs.declared.ServerAnswer.{ServerAnswer}
 use Rattle.types.specs.declared.BindingAnswer.{BindingAnswer}
 use Rattle.types.specs.declared.ClientAnswer.{ClientAnswer}
-use Rattle.rules.specs.Conditions.{_and_, unless, all, lowest}
+use Rattle.rules.specs.Conditions.{_and_, unless, all}
 use Rattle.rules.specs.Parts.{noServer, noReservation, noWrite, noClient, noMessage, reservedAt, lentAt, potleaseAt, writeAt, leadsAt, bindingAt, withLife, withLeading, withReserved, withBinding, message, clientParty, parties, serverAt, stateAt, messageAt, offsetAt, clock, withServer, withNotices, withClients, withClient, withTime, withNext}
 use Rattle.rules.specs.Ranges.{configInRange, interactionInRange, offsetInRange, reservationInRange, writeInRange, addressInRange, serverInRange, stateInRange, isServer, isClient, bodyInRange, messageInRange, inRange, endInRange, readingInRange, lastTime, lastInteraction, mostWaiting, Sound}
 use Rattle.types.specs.declared.Deed.{Deed}

@@ -6,7 +6,6 @@ use native.Mathlib.Omega.{arith}
 use borrow.Author.Tests.{ne-eqb}
 use lib.Dec.{T, eqb}
 use Rattle.types.specs.declared.Facade.{Facade}
-use Rattle.types.specs.declared.Answer.{Answer}
 use Rattle.rules.specs.Conditions.{unless}
 use Rattle.rules.specs.Views.{View, whole}
 use Rattle.rules.specs.Ranges.{inRange}

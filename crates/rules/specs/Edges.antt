@@ -1,4 +1,5 @@
--- The edges of the refusals from 2 on (3 is of bytes, and comes from no step): each bound, one past it, and steps that break two rules at once.
+-- The edges of the refusals from 2 on (3 is of bytes, and comes from no step): each bound, one past it, and steps that break
+-- two rules at once.
 -- One table and one claim about it, computed by `step`.
 use mathlib.Core.Path.{_≡_, refl}
 use mathlib.Core.Bool.{true, false, cond}
@@ -118,7 +119,7 @@ mixed p m f = withMessages f (set (replicate 128 write) p m) 8
 unfoldable pub minus : ℕ → ℕ
 minus n = 4294967296 - n
 
--- the last end and the last clock reading in range, as the paper has them
+-- the last end and the last clock reading in range, as the paper has them: the table does not follow the rules
 greatestEnd : ℕ
 greatestEnd = 2000000000
 

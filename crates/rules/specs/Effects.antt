@@ -1,6 +1,8 @@
 -- What a step that is not refused does: a facade, the step, and the whole facade and the outcome that document 01 gives for it.
--- One table and one claim about it, computed by `step`. What is expected names each part that changes with its value; the rest is as it was given.
--- Changes are written here part by part and share nothing with the rules. Unused places hold odd values, so that a rule that touches them is seen.
+-- One table and one claim about it, computed by `step`. What is expected names each part that changes with its value; the rest
+-- is as it was given.
+-- Changes are written here part by part and share nothing with the rules. Unused places hold odd values, so that a rule that
+-- touches them is seen.
 use mathlib.Core.Path.{_≡_, refl}
 use mathlib.Core.Bool.{Bool, true, false}
 use mathlib.Core.List.{List, [], _∷_, _++_, map}
@@ -115,9 +117,11 @@ queue n ms f =
 abbrev none : Message
 none = record { sender = 0; receiver = 0; interaction = 0; body = Empty }
 
--- The given facade: three servers, four clients (parties 3 to 6) and four addresses, with Δ = 2, ν = 10, μ = 50 and θ = 10, at time 100; the next κ is 9.
+-- The given facade: three servers, four clients (parties 3 to 6) and four addresses, with Δ = 2, ν = 10, μ = 50 and θ = 10, at
+-- time 100; the next κ is 9.
 -- The clocks of the servers read 102, 98 and 101, those of the clients 99, 102, 100 and 101.
--- Each server leads addresses 1 and 2, and has reservations and open writes. Odd are: sets from place 3 on, addresses from 4 on, server 3, clients from 4 on, messages from 3 on.
+-- Each server leads addresses 1 and 2, and has reservations and open writes. Odd are: sets from place 3 on, addresses from 4
+-- on, server 3, clients from 4 on, messages from 3 on.
 
 abbrev numbered : ℕ → Bool → Server
 numbered n x =
@@ -261,7 +265,8 @@ discovers =
     -- none; there is no address 4
     ++ handles (odd ▷ server 2 (reserved 4 Free ∷ [])) (message 6 2 7 Discover) 1 [] []
 
--- A request to server 1: the reservations of κ 4 at addresses 1 and 3 go, that of κ 3 at the address itself stays. Lent until 148; the wanted end is smaller and larger.
+-- A request to server 1: the reservations of κ 4 at addresses 1 and 3 go, that of κ 3 at the address itself stays. Lent until
+-- 148; the wanted end is smaller and larger.
 abbrev dropped : Facade → Facade
 dropped = server 1 (reserved 1 Free ∷ reserved 3 Free ∷ [])
 
@@ -281,7 +286,8 @@ requests =
     ++ handles (odd ▷ server 1 (records 2 94 ∷ [])) (message 3 1 4 (Request 2 140)) 1 (dropped ∷ []) []
     ++ handles odd (message 3 1 4 (Request 0 140)) 1 (dropped ∷ []) []
 
--- A renew to server 1: reservations stay. The old end is the clock; then the lent end is larger, and the record larger still; then the wanted end.
+-- A renew to server 1: reservations stay. The old end is the clock; then the lent end is larger, and the record larger still;
+-- then the wanted end.
 renewals : List Row
 renewals =
     handles odd (message 5 1 4 (Renew 2 98 140)) 0 (server 1 (lent 2 148 ∷ records 2 148 ∷ writes 2 (pending 4 148 (flags false true false false)) ∷ []) ∷ [])
@@ -302,7 +308,8 @@ written =
     ++ handles odd (message 2 1 6 (Write 3 200)) 0 (server 1 (records 3 200 ∷ []) ∷ []) (message 1 2 6 (WriteAck 3 200) ∷ [])
     ++ handles odd (message 0 1 5 (Write 2 70)) 0 [] (message 1 0 5 (WriteAck 2 70) ∷ [])
 
--- A write ack to server 1, whose write of address 1 only itself has acknowledged: counted, repeated, and the last one. Place 3 is not counted, and cleared when the write closes.
+-- A write ack to server 1, whose write of address 1 only itself has acknowledged: counted, repeated, and the last one. Place 3
+-- is not counted, and cleared when the write closes.
 abbrev acked : Bool → Bool → Bool → Facade → Facade
 acked x y z = server 1 (writes 1 (pending 4 160 (flags x true y z)) ∷ [])
 
@@ -331,7 +338,8 @@ clients =
     ++ handles odd (message 0 5 6 (Ack 3 180)) 0 (client 2 (Holding 3 180 6) ∷ []) []
     ++ handles odd (message 0 5 6 (Ack 3 100)) 1 [] []
     ++ handles odd (message 0 5 6 (Ack 2 120)) 1 [] []
-    -- an offer to a client that is idle, offered, waiting or holding, and an ack to one that is idle, asking or offered, each with its κ
+    -- an offer to a client that is idle, offered, waiting or holding, and an ack to one that is idle, asking or offered, each
+    -- with its κ
     ++ handles (odd ▷ client 3 Idle) (message 1 6 7 (Offer 2)) 1 [] []
     ++ handles odd (message 1 4 5 (Offer 2)) 1 [] []
     ++ handles odd (message 1 3 4 (Offer 2)) 1 [] []

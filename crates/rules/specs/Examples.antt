@@ -1,5 +1,5 @@
--- The worked examples of document 01: rows P1 to P12 and the run of the rig. Each is computed by `step` itself, refusal 2 included, but for
--- the ranks of P12.
+-- The worked examples of document 01: rows P1 to P12 and the run of the rig. Each is computed by `step` itself, refusal 2
+-- included, but for the ranks of P12.
 use mathlib.Core.Path.{_≡_, refl}
 use mathlib.Core.Bool.{Bool, true, false}
 use mathlib.Core.List.{List, [], _∷_, _++_, map}
@@ -92,9 +92,10 @@ serverOf c r led x l v = record {
 plain : Server
 plain = serverOf 0 0 false Free 0 0
 
--- at true time t, with all notices at h, client 0 in state x and n messages; server 0's clock is 2 ahead and the client's 1 behind, so that a clock is told from true time
-facadeOf : ℕ → Server → Server → ℕ → State → List Message → ℕ → Facade
-facadeOf t s₀ s₁ h x ms n = record {
+-- at true time t, with all notices at h, client 0 in state x and n messages; server 0's clock is 2 ahead and the client's 1
+-- behind, so that a clock is told from true time
+rowFacade : ℕ → Server → Server → ℕ → State → List Message → ℕ → Facade
+rowFacade t s₀ s₁ h x ms n = record {
   config = rowConfig 2 1;
   time = t;
   next = 9;
@@ -108,15 +109,15 @@ facadeOf t s₀ s₁ h x ms n = record {
 
 -- at clock reading r of server 0, which is s
 serverRow : ℕ → Server → Facade
-serverRow r s = facadeOf (r - 2) s plain (r - 2) Idle [] 0
+serverRow r s = rowFacade (r - 2) s plain (r - 2) Idle [] 0
 
 -- the same with a message from client 0 to server 0
 mailRow : ℕ → Server → Body → Facade
-mailRow r s b = facadeOf (r - 2) s plain (r - 2) Idle (message 2 0 1 b ∷ []) 1
+mailRow r s b = rowFacade (r - 2) s plain (r - 2) Idle (message 2 0 1 b ∷ []) 1
 
 -- at clock reading r of client 0, in state x, with a message from server 0 to it
 clientRow : ℕ → State → Body → Facade
-clientRow r x b = facadeOf (r + 1) plain plain (r + 1) x (message 0 2 1 b ∷ []) 1
+clientRow r x b = rowFacade (r + 1) plain plain (r + 1) x (message 0 2 1 b ∷ []) 1
 
 -- What is read off an answer.
 
@@ -136,19 +137,19 @@ isTaken Free = false
 isTaken (Taken q r) = true
 
 -- the end that a message names
-endOf : Body → ℕ
-endOf Empty = 0
-endOf Discover = 0
-endOf (Offer a) = 0
-endOf (Request a t) = t
-endOf (Renew a e t) = e
-endOf (Write a v) = v
-endOf (WriteAck a v) = v
-endOf (Ack a e) = e
+endNamed : Body → ℕ
+endNamed Empty = 0
+endNamed Discover = 0
+endNamed (Offer a) = 0
+endNamed (Request a t) = t
+endNamed (Renew a e t) = e
+endNamed (Write a v) = v
+endNamed (WriteAck a v) = v
+endNamed (Ack a e) = e
 
 -- the ends in the waiting messages: after a grant the ack's and then the write's
 sentEnds : Facade → List ℕ
-sentEnds f = map (λ m. endOf (m .body)) (take (f .waiting) (f .messages))
+sentEnds f = map (λ m. endNamed (m .body)) (take (f .waiting) (f .messages))
 
 -- refusal, outcome, and what else is read off
 reading : (Facade → List ℕ) → Answer → List ℕ
@@ -195,9 +196,9 @@ answer (cleanAt r′ r) =
 answer (ackAt e r) = reading (λ f. heldUntil (stateAt f 0) ∷ []) (answered (clientRow r (Waiting 1 0) (Ack 0 e)) (deliver 0 0))
 answer (passTo e r) = reading (λ f. heldUntil (stateAt f 0) ∷ []) (answered (clientRow (r - 1) (Holding 0 e 1) (Ack 0 e)) (pass 1 0 0))
 answer (deadAt c t) =
-    reading (λ f. noticeAt f 0 1 ∷ bit (believes ((serverAt f 0) .believed) 1) ∷ []) (answered (facadeOf t plain (serverOf c 0 false Free 0 0) c Idle [] 0) (notice 0 1 0))
+    reading (λ f. noticeAt f 0 1 ∷ bit (believes ((serverAt f 0) .believed) 1) ∷ []) (answered (rowFacade t plain (serverOf c 0 false Free 0 0) c Idle [] 0) (notice 0 1 0))
 answer (silentTo t t′) =
-    reading (λ f. f .time ∷ []) (answered (facadeOf (t + 2) plain plain t Idle [] 0) (pass (t′ - (t + 2)) 0 0))
+    reading (λ f. f .time ∷ []) (answered (rowFacade (t + 2) plain plain t Idle [] 0) (pass (t′ - (t + 2)) 0 0))
 answer (ranks s a) = rank s a 0 ∷ rank s a 1 ∷ rank s a 2 ∷ []
 answer (leadWhen x y z) = leaders 1 (run (threeServers x y z) (notices x y z))
 
@@ -239,7 +240,7 @@ table =
 
 -- the claim: the rules give what the table says
 rows-hold : map (λ x. answer (x .ask)) table ≡ map (λ x. x .gives) table
-unfolding answered rowConfig serverOf plain facadeOf serverRow mailRow clientRow bit heldUntil isTaken endOf sentEnds reading livesIf threeServers notices leaders answer row table
+unfolding answered rowConfig serverOf plain rowFacade serverRow mailRow clientRow bit heldUntil isTaken endNamed sentEnds reading livesIf threeServers notices leaders answer row table
 rows-hold = refl
 
 -- The run of the rig.

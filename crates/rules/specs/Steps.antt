@@ -348,8 +348,8 @@ hasRoom n = leb n mostWaiting
 abbrev pub full : Facade → ℕ
 full f = unless (hasRoom (f .waiting)) 13 0
 
--- "Refusal list, checked from the top": the number of the first rule that is broken, or what the rules below give. Rules 4 and 5, which a
--- step alone can break:
+-- "Refusal list, checked from the top": the number of the first rule that is broken, or what the rules below give. Rules 4 and
+-- 5, which a step alone can break:
 unfoldable pub malformed : Action → ℕ → ℕ
 malformed x below = unless (isKnown x) 4 (unless (fieldsInRange x) 5 below)
 

@@ -234,7 +234,7 @@ pub fn record_at(s: &[u8], p: usize) -> Record
     }
 }
 
-// The first refusal among the records from place 29 on, 0 if none.
+// The first refusal among the records from the first record on, 0 if none.
 fn records_refusal(s: &[u8]) -> u32
     ensures { λ n. ⌜ n ≡ recordsRefusal (length (now (s .entry))) (now (s .entry)) firstRecord ⌝ }
 {

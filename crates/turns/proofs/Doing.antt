@@ -38,13 +38,13 @@ use Rattle.cable.specs.Places.{spanOf}
 use Rattle.cable.specs.declared.Span.{Span}
 use Rattle.cable.proofs.Laws.{rest-high}
 use Rattle.decisions.specs.Decided.{decided}
-use Rattle.deeds.specs.Deeds.{eventInRange, DeedInRange, servedIn, askedIn}
+use Rattle.deeds.specs.Deeds.{eventInRange, DeedInRange, servedAt, askedIn}
 use Rattle.facade.specs.Settled.{nextIn, noticesIn, waitingIn}
 use Rattle.facade.proofs.Laws.{Hand, decided-fits, decided-there, refused-rests, is-refused-so, out, rests-is, passes-is, serves-is, asks-is, few-served, few-asked, left-out, put-in}
 use Rattle.turns.proofs.Turns.{as-many-clients}
 
--- the world, but for its waiting count, the servers and the clients are w, ss and ys; of the messages ms that at p is taken out if `taken`,
--- and what o holds waits behind the rest
+-- the world, but for its waiting count, the servers and the clients are w, ss and ys; of the messages ms that at p is taken
+-- out if `taken`, and what o holds waits behind the rest
 abbrev pub left : World → List Server → List Client → List Message → ℕ → Bool → Outbox → Facade
 left w ss ys ms p taken o = facadeOf (waitingIn w (restOf (w .waiting) taken + o .count)) ss ys (exchanged ms p (w .waiting) taken o)
 
@@ -60,8 +60,8 @@ room-left i j e h = leb→le i j (rw (sym e ∙ h) tt)
 none-left : {b : Bool} (i j : ℕ) → b ≡ leb i j → b ≡ false → j < i
 none-left i j e h = nleb→lt i j (rw (sym e ∙ h) tt)
 
--- Step s is refused with n, or done with outcome k where n is 0: the world, the servers and the clients are w₁, ss₁ and ys₁, and the messages
--- are still to be exchanged.
+-- Step s is refused with n, or done with outcome k where n is 0: the world, the servers and the clients are w₁, ss₁ and ys₁,
+-- and the messages are still to be exchanged.
 pub record Did (w : World) (ss : List Server) (ys : List Client) (ms : List Message) (s : Step) (n : ℕ) (taken : Bool) (w₁ : World) (ss₁ : List Server) (ys₁ : List Client) (o : Outbox) (k : ℕ) : Type 0 where
   pub answer : record { refusal = n; outcome = k; facade = left w₁ ss₁ ys₁ ms (s .first) taken o } ≡ step (facadeOf w ss ys ms) s
   pub waits : w₁ .waiting ≤ 128
@@ -164,7 +164,7 @@ module _ {w : World} {ss : List Server} {ys : List Client} {ms : List Message} {
     unfolding DeedInRange
     served-low = omega (arith, noticed-fits .1 .0, c-ok)
 
-    module _ {y : ServerAnswer} (b : y ≡ servedIn w k (getD ss k noServer) v) where
+    module _ {y : ServerAnswer} (b : y ≡ servedAt (w .config) (w .time) (offsetOf (w .offsets) k) k (getD ss k noServer) v) where
       served : d .refusal ≡ 0
       served = kept (λ q. let n : _≡_ {A = ℕ} 0 1 = cc in absurd (omega arith))
 

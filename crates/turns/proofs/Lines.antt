@@ -1,10 +1,10 @@
 -- The lines of the records, one record at a time.
 use mathlib.Core.Path.{_≡_, refl}
 use mathlib.Core.Bool.{Bool, true, false}
-use mathlib.Core.List.{List, [], _++_}
+use mathlib.Core.List.{List, _++_}
 use Prim.Native.Nat.{ℕ, zero, suc, _+_, _-_, _*_, _≤_, _<_}
 use native.Mathlib.Omega.{arith}
-use lib.Dec.{T, eqb, leb, ltb→lt, nleb→lt}
+use lib.Dec.{T, leb, ltb→lt, nleb→lt}
 use lib.ListN.{length, getD, take, drop, length-append}
 use borrow.Author.Tests.{le-ltb, eq-eqb, ne-eqb}
 use Rattle.types.specs.declared.Facade.{Facade}
@@ -17,6 +17,7 @@ use Rattle.rules.proofs.Laws.{and-r, cond-case, not-eqb}
 use Rattle.rules.proofs.Kept.{ranged}
 use Rattle.rules.proofs.Ranges.{step-sound}
 use Rattle.rules.proofs.Bounds.{step-refusal-high, step-outcome-high}
+use Rattle.script.specs.Layout.{firstRecord}
 use Rattle.script.specs.Reading.{longest, isFramed, decode, isWhole, recordAt}
 use Rattle.script.specs.declared.Record.{Record}
 use Rattle.report.specs.Lines.{recordLine, heldLine}
@@ -72,9 +73,10 @@ answer-line-short k f s x h v e =
 
 -- Room for the lines from record k at place p on, where k - 1 records before took two bytes or more each, from place 29 on.
 module _ (s : List ℕ) (short : length s ≤ longest) where
-  -- by the bytes that are left: 26 for each record, which takes two bytes or more of the script, for one at refusal 3, and 16 for the last line;
+  -- by the bytes that are left: 26 for each record, which takes two bytes or more of the script, for one at refusal 3, and 16
+  -- for the last line;
   -- and by the turns
-  lines-high : (n : ℕ) (f : Facade) (p k : ℕ) → Sound f → 2 * k + 27 ≤ p
+  lines-high : (n : ℕ) (f : Facade) (p k : ℕ) → Sound f → firstRecord + 2 * k ≤ p + 2
       → (length (linesFrom n f s p k) ≤ 13 * (length s - p) + 42) × (length (linesFrom n f s p k) ≤ 26 * n + 16)
   unfolding linesFrom
   lines-high zero f p k v h = (omega arith, omega arith)
@@ -96,10 +98,10 @@ module _ (s : List ℕ) (short : length s ≤ longest) where
       let later = lines-high n (x .facade) (r .next) (k + 1) (step-sound f (r .step) v) (omega arith) in
       (omega (arith, line, later .0), omega (arith, line, later .1)))
 
-  pub lines-fit : (n : ℕ) (f : Facade) (p k : ℕ) → Sound f → 2 * k + 27 ≤ p → length (linesFrom n f s p k) ≤ 13 * (length s - p) + 42
+  pub lines-fit : (n : ℕ) (f : Facade) (p k : ℕ) → Sound f → firstRecord + 2 * k ≤ p + 2 → length (linesFrom n f s p k) ≤ 13 * (length s - p) + 42
   lines-fit n f p k v h = lines-high n f p k v h .0
 
-  pub lines-few : (n : ℕ) (f : Facade) (p k : ℕ) → Sound f → 2 * k + 27 ≤ p → length (linesFrom n f s p k) ≤ 26 * n + 16
+  pub lines-few : (n : ℕ) (f : Facade) (p k : ℕ) → Sound f → firstRecord + 2 * k ≤ p + 2 → length (linesFrom n f s p k) ≤ 26 * n + 16
   lines-few n f p k v h = lines-high n f p k v h .1
 
 -- One turn, where r is the record at p.

@@ -20,6 +20,7 @@ use Rattle.rules.specs.Steps.{Action, actionOf, malformed, holdsEnded, step, he
 use Rattle.rules.proofs.Laws.{length-filled}
 use Rattle.rules.proofs.Ranges.{step-sound}
 use Rattle.world.specs.Apart.{facadeOf}
+use Rattle.script.specs.Layout.{firstRecord}
 use Rattle.script.specs.Reading.{longest, recordAt}
 use Rattle.script.specs.declared.Record.{Record}
 use Rattle.script.proofs.Refusals.{record-refusal}
@@ -45,8 +46,8 @@ as-read s p r e n x a = rw (a, e) (record-refusal s p (rw e at n))
 pub whether-ended : (s : List ℕ) (r : Progress) (ended : Bool) → UnderWay s r → UnderWay s (before (r .facade) (r .place) (r .number) ended)
 whether-ended s r ended u = record { sound = u .sound; servers = u .servers; clients = u .clients; counted = u .counted; placed = u .placed; short = u .short }
 
--- The turns of a run of script s are under way, with record k at place p next and so many left: with the lines that are owed at place j of the
--- buffer, which is now m, all of v is put into l at place i, and the run behind them is z.
+-- The turns of a run of script s are under way, with record k at place p next and so many left: with the lines that are owed
+-- at place j of the buffer, which is now m, all of v is put into l at place i, and the run behind them is z.
 pub record Going (s l v : List ℕ) (i : ℕ) (z : Progress) (m : List ℕ) (w : World) (ss : List Server) (ys : List Client) (ms : List Message) (j p k left : ℕ) : Type 0 where
   pub way : UnderWay s (before (facadeOf w ss ys ms) p k false)
   pub same : length m ≡ length l
@@ -105,7 +106,7 @@ module _ {s l v m : List ℕ} {i j p k left : ℕ} {z : Progress} {w : World} {s
           let two = rw (goes-with n f s p k r e x d t) at owes in
           let first = fits-first l v m (answerLine k x) _ i j two fits in
           let sound : Sound (x .facade) = rw d (step-sound f (r .step) (g .way .sound)) in
-          let counted : 2 * (k + 1) + 27 ≤ r .next = omega (arith, on, g .way .counted) in
+          let counted : firstRecord + 2 * (k + 1) ≤ r .next + 2 = omega (arith, on, g .way .counted) in
           let placed : r .next ≤ longest = omega (arith, on, g .way .short) in
           record {
             way = record {

@@ -1,5 +1,5 @@
--- The lines of the records, as the rig prints them: "per record: its number from 1, refusal (0 if none), outcome (0 if refused), true time,
--- waiting messages. Refusal 3 ends the run after its line. Last comes `held` and how many clients hold."
+-- The lines of the records, as the rig prints them: "per record: its number from 1, refusal (0 if none), outcome (0 if
+-- refused), true time, waiting messages. Refusal 3 ends the run after its line. Last comes `held` and how many clients hold."
 use mathlib.Core.Path.{_≡_}
 use mathlib.Core.Bool.{Bool, true, false, cond}
 use mathlib.Core.List.{List, [], _++_}
@@ -10,6 +10,7 @@ use Rattle.types.specs.declared.Facade.{Facade}
 use Rattle.types.specs.declared.Answer.{Answer}
 use Rattle.rules.specs.Steps.{step, heldClients}
 use Rattle.rules.specs.Ranges.{Sound}
+use Rattle.script.specs.Layout.{firstRecord}
 use Rattle.script.specs.Reading.{longest, recordAt}
 use Rattle.turns.specs.declared.Progress.{Progress}
 use Rattle.report.specs.Lines.{recordLine, heldLine}
@@ -44,11 +45,12 @@ progressFrom (suc n) f s p k =
     cond (endsAt s p) (before f p k true)
     (progressFrom n ((step f ((recordAt s p) .step)) .facade) s ((recordAt s p) .next) (k + 1))
 
--- the run r of a script of the right length is under way: its facade is in range, and each record before took two bytes or more, from the first record on
+-- the run r of a script of the right length is under way: its facade is in range, and each record before took two bytes or
+-- more, from the first record on
 pub record UnderWay (s : List ℕ) (r : Progress) : Type 0 where
   pub sound : Sound (r .facade)
   pub servers : length (r .facade .servers) ≡ 4
   pub clients : length (r .facade .clients) ≡ 32
-  pub counted : 2 * r .number + 27 ≤ r .place
+  pub counted : firstRecord + 2 * r .number ≤ r .place + 2
   pub placed : r .place ≤ longest
   pub short : length s ≤ longest

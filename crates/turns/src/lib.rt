@@ -76,7 +76,7 @@ fn piece_of(
     }
 }
 
-// The lines that end a run at record k are put, unless the script is over there only the last; n clients hold.
+// The lines that end a run at record k are put: that of the record, unless the script is over, and the last one.
 fn put_last_lines(
     out: &mut [u8],
     at: usize,
@@ -118,9 +118,9 @@ fn end_run(
 }
 
 // The lines of so many turns of the run r are put from place `start` on. The facade stays apart in locals, what happens is put in
-// there as `facade::step` does, and the messages are exchanged by the two loops of `cable::exchanged`, written out here: whatever
-// is handed on is copied, once for each record. In a refused step nothing happens and no message is taken out, so that every
-// record goes the same way to its line.
+// there as `facade::step` does, and the messages are exchanged by the two loops of `cable::removed` and `cable::sent_behind`,
+// written out here: whatever is handed on is copied, once for each record. In a refused step nothing happens and no message is
+// taken out, so that every record goes the same way to its line.
 pub fn put_turns(s: &[u8], r: Progress, out: &mut [u8], start: usize, most: u32) -> Piece
     requires { ⌜ UnderWay (now s) r × (start + length (linesFrom most (r .facade) (now s) (r .place) (r .number)) + 55 ≤ length (now out)) ⌝ }
     ensures { λ x. ⌜ (x .progress ≡ progressFrom most (r .facade) (now (s .entry)) (r .place) (r .number)) × UnderWay (now (s .entry)) (x .progress) × (x .end ≡ start + length (linesFrom most (r .facade) (now (s .entry)) (r .place) (r .number))) ⌝ }

@@ -9,7 +9,6 @@ use types::Config;
 use types::Facade;
 use types::Step;
 ghost use mathlib.Core.Path.{_≡_};
-ghost use Prim.Native.Nat.{_+_, _*_};
 ghost use Rattle.rules.specs.Steps.{step as step′};
 
 // A step in four numbers: kind and fields.

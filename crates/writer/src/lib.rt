@@ -74,7 +74,7 @@ fn put_record(out: &mut [u8], at: usize, s: Step) -> usize
     at + 14
 }
 
-// The records of the steps, from place 29 on.
+// The records of the steps, from the first record on.
 fn put_records(out: &mut [u8], l: &[u32])
     requires { ⌜ (stepsRefusal (stepsIn (now l)) ≡ 0) × (firstRecord + length (recordsOf (stepsIn (now l))) ≤ length (now out)) ⌝ }
     ensures { λ _. ⌜ now (out .exit) ≡ over (now (out .entry)) firstRecord (recordsOf (stepsIn (now (l .entry)))) ⌝ }

@@ -1,7 +1,4 @@
-use mathlib.Core.Path.{ap}
-use Prim.Native.Nat.{ℕ, _+_}
 use native.Mathlib.Omega.{arith}
-use lib.Dec.{leb}
 use borrow.Author.Needs.{needs}
 use Rattle.cable.proofs.Laws.{rest-high}
 use Rattle.cable.proofs.room_for.Statement.{statement}

@@ -1,7 +1,6 @@
 use native.Mathlib.Omega.{arith}
 use mir.Facts.{toZ-ofZ}
 use Rattle.rules.proofs.Clocks.{plus-high}
-use borrow.Author.Needs.{needs}
 use Rattle.deeds.proofs.served_at.Statement.{statement}
 use Rattle.deeds.proofs.served_at.Tie as tie
 

@@ -1,6 +1,6 @@
 use mathlib.Core.Path.{_≡_, sym, _∙_}
 use lib.Dec.{leb}
-use Rattle.rules.specs.Conditions.{_and_, unless}
+use Rattle.rules.specs.Conditions.{_and_}
 use Rattle.rules.specs.Steps.{renew, exists, stateAllows, interactionLeft}
 use Rattle.rules.proofs.Laws.{and-l}
 use Rattle.device.specs.Device.{seen, deviceRefusal, clientFits, deviceRenews}

@@ -1,4 +1,3 @@
-use mathlib.Core.Path.{sym, _∙_}
 use Rattle.rules.specs.Conditions.{_and_}
 use Rattle.device.specs.Device.{messageFits}
 use borrow.Author.Needs.{needs}
