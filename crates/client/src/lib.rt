@@ -1,4 +1,4 @@
-// What a client does, on its own value: c is the configuration, i its number, r its clock reading, x its state.
+// What a client does, on its own value: c is the configuration, i its number, r its clock reading, x its state. And how many hold.
 use arith::both;
 use outbox::nothing;
 use outbox::to_each;
