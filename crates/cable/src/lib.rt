@@ -9,7 +9,7 @@ ghost use Rattle.cable.specs.Places.{first_of, end_of, span_of, message_sent};
 use types::{MOST_WAITING, Message, Outbox};
 
 // The places that an exchange changes: from `first` on messages move up, from `rest` on what is sent is put, up to `last`.
-#[derive(Drop)]
+#[derive(Clone, Copy)]
 pub struct Span {
     pub first: usize,
     pub rest: usize,

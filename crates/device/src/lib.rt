@@ -19,14 +19,14 @@ use types::{
 };
 
 // What a server answers: the refusal or 0, then its value, the outcome and what it sends.
-#[derive(Drop)]
+#[derive(Clone, Copy)]
 pub struct ServerReply {
     pub refusal: u32,
     pub answer: ServerAnswer,
 }
 
 // The same of a client.
-#[derive(Drop)]
+#[derive(Clone, Copy)]
 pub struct ClientReply {
     pub refusal: u32,
     pub answer: ClientAnswer,

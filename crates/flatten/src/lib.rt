@@ -17,10 +17,10 @@ use types::{
 use wire::complement;
 
 // Numbers that stand side by side.
-#[derive(Drop)]
+#[derive(Clone, Copy)]
 struct Three(u32, u32, u32);
 
-#[derive(Drop)]
+#[derive(Clone, Copy)]
 struct Four(u32, u32, u32, u32);
 
 fn put_number(out: &mut [u32], at: usize, n: u32)

@@ -16,21 +16,21 @@ pub const FIRST_RECORD: usize = 29;
 pub const LONGEST: usize = 65536;
 
 // What the header says: refusal 0, 1 or 2, and the configuration, all zeros with refusal 1.
-#[derive(Drop)]
+#[derive(Clone, Copy)]
 pub struct Header {
     pub refusal: u32,
     pub config: Config,
 }
 
 // What a record says: refusal 0, 3, 4 or 5, and the step, all zeros with refusal 3.
-#[derive(Drop)]
+#[derive(Clone, Copy)]
 pub struct Decoded {
     pub refusal: u32,
     pub step: Step,
 }
 
 // A record of a script, and the place behind it.
-#[derive(Drop)]
+#[derive(Clone, Copy)]
 pub struct Record {
     pub refusal: u32,
     pub step: Step,
@@ -38,7 +38,7 @@ pub struct Record {
 }
 
 // What the writer answers: a refusal, and how many bytes it wrote.
-#[derive(Drop)]
+#[derive(Clone, Copy)]
 pub struct Written {
     pub refusal: u32,
     pub length: usize,

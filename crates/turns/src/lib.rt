@@ -18,7 +18,7 @@ use types::{Client, Deed, Facade, Message, Server, World};
 use world::{facade_of, lives_of, place_below, world_of};
 
 // A run under way.
-#[derive(Drop)]
+#[derive(Clone, Copy)]
 pub struct Progress {
     pub facade: Facade,
     // the place of the next record in the script, and its number
@@ -29,7 +29,7 @@ pub struct Progress {
 }
 
 // A piece of output: the run behind it, and the place behind its last byte.
-#[derive(Drop)]
+#[derive(Clone, Copy)]
 pub struct Piece {
     pub progress: Progress,
     pub end: usize,

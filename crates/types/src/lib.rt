@@ -20,7 +20,7 @@ pub const AFTER_LAST: u32 = 1000001;
 pub const MOST_WAITING: u32 = 128;
 
 // The configuration: how many there are of each, and the four times.
-#[derive(Drop)]
+#[derive(Clone, Copy)]
 pub struct Config {
     // S
     pub servers: u32,
@@ -39,32 +39,32 @@ pub struct Config {
 }
 
 // None, or the interaction κ and the clock reading at which the address was reserved.
-#[derive(Drop)]
+#[derive(Clone, Copy)]
 pub enum Reserved {
     Free,
     Taken(u32, u32),
 }
 
-#[derive(Drop)]
+#[derive(Clone, Copy)]
 pub struct Reservation {
     pub state: Reserved,
 }
 
 // None, or the interaction κ and the end that the other servers are asked to record.
-#[derive(Drop)]
+#[derive(Clone, Copy)]
 pub enum Pending {
     Closed,
     Open(u32, u32),
 }
 
 // The open write: the servers that acknowledged stand beside it, as an enum holds no array.
-#[derive(Drop)]
+#[derive(Clone, Copy)]
 pub struct OpenWrite {
     pub pending: Pending,
     pub acked: [bool; 4],
 }
 
-#[derive(Drop)]
+#[derive(Clone, Copy)]
 pub struct Server {
     pub alive: bool,
     // c, the true time of the last change
@@ -83,7 +83,7 @@ pub struct Server {
 }
 
 // What a server keeps for one address, in the terms of DHCP a binding.
-#[derive(Drop)]
+#[derive(Clone, Copy)]
 pub struct Binding {
     pub leads: bool,
     pub reserved: Reserved,
@@ -94,7 +94,7 @@ pub struct Binding {
     pub write: OpenWrite,
 }
 
-#[derive(Drop)]
+#[derive(Clone, Copy)]
 pub enum State {
     Idle,
     // κ
@@ -107,13 +107,13 @@ pub enum State {
     Holding(u32, u32, u32),
 }
 
-#[derive(Drop)]
+#[derive(Clone, Copy)]
 pub struct Client {
     pub state: State,
 }
 
 // What a message says besides its parties and κ.
-#[derive(Drop)]
+#[derive(Clone, Copy)]
 pub enum Body {
     // no message: what an unused place holds
     Empty,
@@ -133,7 +133,7 @@ pub enum Body {
 }
 
 // Sender and receiver are party numbers: the servers come first, and client i is party S + i.
-#[derive(Drop)]
+#[derive(Clone, Copy)]
 pub struct Message {
     pub sender: u32,
     pub receiver: u32,
@@ -142,7 +142,7 @@ pub struct Message {
     pub body: Body,
 }
 
-#[derive(Drop)]
+#[derive(Clone, Copy)]
 pub struct Facade {
     pub config: Config,
     // true time
@@ -162,7 +162,7 @@ pub struct Facade {
 
 // A step: the kind number decides it, and its fields follow in the paper's order.
 // A step with fewer fields leaves the others unread.
-#[derive(Drop)]
+#[derive(Clone, Copy)]
 pub struct Step {
     pub kind: u32,
     pub first: u32,
@@ -171,7 +171,7 @@ pub struct Step {
 }
 
 // What a step says: its kind, with the fields that the kind has. `Unknown` is every other kind.
-#[derive(Drop)]
+#[derive(Clone, Copy)]
 pub enum Action {
     // d, party, e
     Pass(u32, u32, i32),
@@ -197,7 +197,7 @@ pub enum Action {
 }
 
 // What happens to a server.
-#[derive(Drop)]
+#[derive(Clone, Copy)]
 pub enum ServerEvent {
     Fails,
     Returns,
@@ -208,7 +208,7 @@ pub enum ServerEvent {
 }
 
 // What a client does or hears.
-#[derive(Drop)]
+#[derive(Clone, Copy)]
 pub enum ClientEvent {
     Discovers,
     // wanted end τ
@@ -219,7 +219,7 @@ pub enum ClientEvent {
 }
 
 // What happens in a step that is not refused, besides that a message may be taken out.
-#[derive(Drop)]
+#[derive(Clone, Copy)]
 pub enum Deed {
     // nothing
     Rests,
@@ -233,7 +233,7 @@ pub enum Deed {
 
 // What the rules 4 to 12 say of a step: the number of the first that it breaks, or 0; whether the message that it names is taken
 // out; and what happens. In a refused step no message is taken out, and nothing happens.
-#[derive(Drop)]
+#[derive(Clone, Copy)]
 pub struct Decision {
     pub refusal: u32,
     pub taken: bool,
@@ -241,7 +241,7 @@ pub struct Decision {
 }
 
 // The answer to a step: the refusal or 0, the outcome (0 where refused), and the facade.
-#[derive(Drop)]
+#[derive(Clone, Copy)]
 pub struct Answer {
     pub refusal: u32,
     pub outcome: u32,
@@ -249,14 +249,14 @@ pub struct Answer {
 }
 
 // What a party sends: the first `count` messages, in order.
-#[derive(Drop)]
+#[derive(Clone, Copy)]
 pub struct Outbox {
     pub count: u32,
     pub messages: [Message; 4],
 }
 
 // What a server is after handling something, the outcome, and what it sends.
-#[derive(Drop)]
+#[derive(Clone, Copy)]
 pub struct ServerAnswer {
     pub server: Server,
     pub outcome: u32,
@@ -264,7 +264,7 @@ pub struct ServerAnswer {
 }
 
 // The same of what it keeps for one address.
-#[derive(Drop)]
+#[derive(Clone, Copy)]
 pub struct BindingAnswer {
     pub binding: Binding,
     pub outcome: u32,
@@ -272,7 +272,7 @@ pub struct BindingAnswer {
 }
 
 // The same of a client.
-#[derive(Drop)]
+#[derive(Clone, Copy)]
 pub struct ClientAnswer {
     pub client: Client,
     pub outcome: u32,
@@ -280,7 +280,7 @@ pub struct ClientAnswer {
 }
 
 // A facade but for its servers, its clients and its messages.
-#[derive(Drop)]
+#[derive(Clone, Copy)]
 pub struct World {
     pub config: Config,
     pub time: u32,
@@ -291,7 +291,7 @@ pub struct World {
 }
 
 // Of each server whether it is alive, and c, the true time of the last change.
-#[derive(Drop)]
+#[derive(Clone, Copy)]
 pub struct Lives {
     pub alive: [bool; 4],
     pub changed: [u32; 4],

@@ -1,0 +1,12 @@
+use mathlib.Core.Path.{◌≡◌}
+use Prim.Native.Nat.{◌+◌, ◌-◌, ◌*◌, ◌≤◌}
+use lib.ListN.{length}
+use Rattle.rules.specs.Conditions.{filled}
+use Rattle.flat.specs.Flat.{flag_in}
+use Rattle.flat.proofs.four_flags_in.Given as goal
+
+abbrev pub invariant-loop-i : goal.invariant-loop-i
+invariant-loop-i l = (l.i ≤ 4) × (length l.initial.xs ≡ 4) × (l.xs ≡ filled (λ k. flag_in l.l (l.at + 1 * k)) l.i l.initial.xs)
+
+abbrev pub decreases-loop-i : goal.decreases-loop-i
+decreases-loop-i l = 4 - l.i

@@ -1,0 +1,12 @@
+use mathlib.Core.Path.{◌≡◌}
+use Prim.Native.Nat.{◌-◌, ◌≤◌}
+use Rattle.rules.specs.Conditions.{all}
+use Rattle.rules.specs.Parts.{message_at}
+use Rattle.rules.specs.Ranges.{message_in_range}
+use Rattle.ranges.proofs.messages_in_range.Given as goal
+
+abbrev pub invariant-loop-p : goal.invariant-loop-p
+invariant-loop-p l = (l.p ≤ l.count) × (l.ok ≡ all (λ q. message_in_range l.f.config l.f.next (message_at l.f q)) l.p)
+
+abbrev pub decreases-loop-p : goal.decreases-loop-p
+decreases-loop-p l = l.count - l.p
