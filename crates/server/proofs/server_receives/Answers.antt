@@ -1,8 +1,8 @@
-use mathlib.Core.Logic.{⊎_elim}
 use native.Mathlib.Omega.{arith}
 use Rattle.rules.proofs.Kept.{address_place}
 use Rattle.server.proofs.Laws.{ready_dropped, ready_same, received}
 use Rattle.server.proofs.server_receives.Goals as goal
+use Rattle.server.proofs.server_receives.Goals.{then-both, else-both}
 
 pub bounds-t-at : goal.bounds-t-at
 bounds-t-at c = omega (arith, address_place _ c.requires.0 _ _ _ _ _ _ _ _ c.address_for-a.ensures c.requires.3)
@@ -36,6 +36,8 @@ bounds-t-at-10 c = omega (arith, address_place _ c.requires.0 _ _ _ _ _ _ _ _ c.
 
 pub returns : goal.returns
 returns c = received c.args.c c.args.k c.args.r c.args.s c.args.m c.if-both.t _ _
-    (⊎_elim (λ x. ready_dropped c.args.c _ c.args.s _ _ _ _ c.both.ensures c.is_request.ensures x.0.taken _ x.1.ensures x.2)
-    (λ x. ready_same c.args.c _ c.args.s _ _ _ _ c.both.ensures c.is_request.ensures x.0.left x.1) c.if-both.branch)
+    (elim c.if-both.branch [
+      | then-both w ↦ ready_dropped c.args.c _ c.args.s _ _ _ _ c.both.ensures c.is_request.ensures w.if-both.true _ w.drop_reservations-kept.ensures w.t-is
+      | else-both w ↦ ready_same c.args.c _ c.args.s _ _ _ _ c.both.ensures c.is_request.ensures w.if-both.false w.t-is
+    ])
     c.address_for-a.ensures c.handle_alive-x.ensures

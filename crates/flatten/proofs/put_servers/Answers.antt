@@ -1,0 +1,49 @@
+use mathlib.Core.Path.{refl, ◌∙◌}
+use Prim.Native.Nat.{◌+◌, ◌-◌, ◌*◌}
+use native.Mathlib.Omega.{arith}
+use borrow.Author.Rules.{rules}
+use Rattle.rules.specs.Parts.{no_server}
+use Rattle.flat.specs.Flat.{server_numbers, server_in}
+use Rattle.flat.specs.Shape.{ServerShaped}
+use Rattle.flat.proofs.Back.{server_back}
+use Rattle.flatten.proofs.Laws.{put_none, put_more, put_all}
+use Rattle.flatten.proofs.put_servers.Goals as goal
+
+pub loop-i-init : goal.loop-i-init
+loop-i-init c = (omega arith, search rules, refl, put_none ServerShaped server_numbers server_in 423 server_back _ _ _)
+
+pub offset_bounds-xs-i : goal.offset_bounds-xs-i
+offset_bounds-xs-i c = omega arith
+
+pub bounds-xs-i : goal.bounds-xs-i
+bounds-xs-i c = omega arith
+
+pub overflow_mul-i : goal.overflow_mul-i
+overflow_mul-i c = omega arith
+
+pub overflow_add-at : goal.overflow_add-at
+overflow_add-at c = omega arith
+
+pub put_server-requires : goal.put_server-requires
+put_server-requires c = omega arith
+
+pub overflow_add-i : goal.overflow_add-i
+overflow_add-i c = omega arith
+
+pub loop-i-smaller : goal.loop-i-smaller
+loop-i-smaller c = omega arith
+
+pub loop-i-preserved : goal.loop-i-preserved
+loop-i-preserved c =
+    let p = c.loop-i in
+    let put = put_more ServerShaped server_numbers server_in 423 server_back c.args.xs c.args.out.now c.args.at p.i p.invariant.3 no_server (omega arith) c.put_server.ensures.server_shaped (omega arith) (c.args.at + 423 * p.i) refl c.put_server.ensures.out_after in
+    (omega arith, p.invariant.1, c.put_server.auto.out ∙ p.invariant.2, put)
+
+pub shape_of-out : goal.shape_of-out
+shape_of-out c = c.loop-i.invariant.2
+
+pub returns : goal.returns
+returns c =
+    let p = c.loop-i in
+    let p = put_all ServerShaped server_numbers server_in 423 server_back _ _ _ p.i p.invariant.3 4 p.invariant.1 (omega arith) in
+    record { has = p.0; out_after = p.1 }

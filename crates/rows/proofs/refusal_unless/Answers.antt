@@ -1,0 +1,10 @@
+use Rattle.rules.specs.Conditions.{unless}
+use Rattle.rows.proofs.refusal_unless.Goals as goal
+
+pub returns-then-test : goal.returns-then-test
+unfolding unless
+returns-then-test c = rw c.if-test.true
+
+pub returns-else-test : goal.returns-else-test
+unfolding unless
+returns-else-test c = rw c.if-test.false
