@@ -11,14 +11,12 @@ use borrow.Author.Rules.{rules}
 use Rattle.facade.proofs.ask.Goals as goal
 use Rattle.facade.proofs.ask.Goals.{After-world_of-w, Start}
 
-long : (c : Start) → length c.args.f.messages ≡ 128
-long c = search (length_mapped, rules)
-
 -- the world is that of a facade in range
 world : (c : After-world_of-w) → WorldInRange c.world_of-w.result
 world c =
     let f = c.args.f in
-    record { servers = f.servers; clients = f.clients; messages = f.messages; sound = rw c.world_of-w.ensures (c.requires.0, long c) }
+    let long : length f.messages ≡ 128 = search (length_mapped, rules) in
+    record { servers = f.servers; clients = f.clients; messages = f.messages; sound = rw c.world_of-w.ensures (c.requires.0, long) }
 
 pub bounds-ys-at : goal.bounds-ys-at
 unfolding DeedInRange
@@ -42,4 +40,4 @@ pub returns : goal.returns
 returns c =
     let f = c.args.f in
     let world = c.world_of-w.ensures in
-    rw (asks_is (world_of f) f.servers f.clients f.messages c.args.p c.args.taken c.args.i c.args.e (rw world at c.asked_in-x.ensures) (rw world at c.next_after.ensures), ← world) c.settle.ensures
+    rw (asks_is (world_of f) f.servers f.clients f.messages c.args.p c.args.taken c.args.i c.args.e (rw world at c.asked_in-x.ensures) (rw world at c.next_after.ensures)) (rw world at c.settle.ensures)

@@ -14,14 +14,12 @@ use borrow.Author.Rules.{rules}
 use Rattle.facade.proofs.serve.Goals as goal
 use Rattle.facade.proofs.serve.Goals.{After-world_of-w, Start}
 
-long : (c : Start) → length c.args.f.messages ≡ 128
-long c = search (length_mapped, rules)
-
 -- the world is that of a facade in range
 world : (c : After-world_of-w) → WorldInRange c.world_of-w.result
 world c =
     let f = c.args.f in
-    record { servers = f.servers; clients = f.clients; messages = f.messages; sound = rw c.world_of-w.ensures (c.requires.0, long c) }
+    let long : length f.messages ≡ 128 = search (length_mapped, rules) in
+    record { servers = f.servers; clients = f.clients; messages = f.messages; sound = rw c.world_of-w.ensures (c.requires.0, long) }
 
 -- the offset that the code read
 read : (c : Start) → to_z w32 (of_z w32 (get_or c.args.f.offsets c.args.k (pos 0))) ≡ get_or c.args.f.offsets c.args.k (pos 0)
@@ -58,4 +56,4 @@ pub returns : goal.returns
 returns c =
     let f = c.args.f in
     let world = c.world_of-w.ensures in
-    rw (serves_is (world_of f) f.servers f.clients f.messages c.args.p c.args.taken c.args.k c.args.e (rw (world, read (goal.at.returns c).Start) at c.served_at-x.ensures) (rw world at c.notices_after-now.ensures), ← world) c.settle.ensures
+    rw (serves_is (world_of f) f.servers f.clients f.messages c.args.p c.args.taken c.args.k c.args.e (rw (world, read (goal.at.returns c).Start) at c.served_at-x.ensures) (rw world at c.notices_after-now.ensures)) (rw world at c.settle.ensures)

@@ -13,17 +13,15 @@ use borrow.Author.Rules.{rules}
 use Rattle.facade.proofs.step_in_range.Goals as goal
 use Rattle.facade.proofs.step_in_range.Goals.{After-decided-d, After-lives_of, Start}
 
-long : (c : Start) → length c.args.f.messages ≡ 128
-long c = search (length_mapped, rules)
-
 -- what is at hand
 hand : (c : After-lives_of)
     → let f = c.args.f in
     Hand (world_of f) f.servers f.clients f.messages c.args.s c.lives_of.result (get_or f.messages c.place_below-from.result no_message) (get_or f.clients c.place_below-near.result no_client).state
 hand c =
     let f = c.args.f in
+    let long : length f.messages ≡ 128 = search (length_mapped, rules) in
     record {
-      sound = (c.requires, long c);
+      sound = (c.requires, long);
       lives = c.lives_of.ensures;
       message = ap (λ (j : ℕ). get_or f.messages j no_message) c.place_below-from.ensures;
       state = ap (λ (j : ℕ). (get_or f.clients j no_client).state) c.place_below-near.ensures;
@@ -49,7 +47,8 @@ bounds-f-near c = omega (arith, place_low 32 _ _ (omega arith) c.place_below-nea
 pub decided-d-requires : goal.decided-d-requires
 decided-d-requires c =
     let f = c.args.f in
-    (record { servers = f.servers; clients = f.clients; messages = f.messages; sound = rw c.world_of.ensures (c.requires, long (goal.at.decided-d-requires c).Start) }, c.malformed.ensures)
+    let long : length f.messages ≡ 128 = search (length_mapped, rules) in
+    (record { servers = f.servers; clients = f.clients; messages = f.messages; sound = rw c.world_of.ensures (c.requires, long) }, c.malformed.ensures)
 
 pub returns-then-d-ne0 : goal.returns-then-d-ne0
 returns-then-d-ne0 c = c.refused.ensures ∙ is_refused_so (hand (goal.at.returns-then-d-ne0 c).After-lives_of) (decided-is (goal.at.returns-then-d-ne0 c).After-decided-d) c.if-d-ne0.true
