@@ -1,0 +1,38 @@
+use mathlib.Core.Path.{◌≡◌, sym, ◌∙◌}
+use mathlib.Core.Bool.{Bool, true}
+use native.Mathlib.Omega.{arith}
+use Rattle.types.specs.declared.Config.{Config}
+use Rattle.types.specs.declared.Client.{Client}
+use Rattle.device.specs.declared.ClientReply.{ClientReply}
+use Rattle.device.specs.Device.{device_lapses}
+use Rattle.firmware.specs.Firmware.{client_left, are_client_lists, pass_time_left}
+use Rattle.firmware.proofs.Laws.{client_lengths, codes_nothing, reads, replied}
+use Rattle.firmware.proofs.hoyllaqe_pass_time.Goals as goal
+use Rattle.firmware.proofs.hoyllaqe_pass_time.Goals.{Else-not-are_client_lists}
+
+-- the lists code what they stand for
+told : (c : Else-not-are_client_lists) → are_client_lists c.args.config.now c.args.client.now c.args.sent.now ≡ true
+told c = sym c.are_client_lists.ensures ∙ c.if-not-are_client_lists.false
+
+pub returns-then-not-are_client_lists : goal.returns-then-not-are_client_lists
+unfolding pass_time_left
+returns-then-not-are_client_lists c = codes_nothing _ _ _ _ _ _ _ (sym c.are_client_lists.ensures ∙ c.if-not-are_client_lists.true)
+
+pub config_in-c-requires : goal.config_in-c-requires
+config_in-c-requires c = omega (arith, (client_lengths _ _ _ (told (goal.at.config_in-c-requires c).Else-not-are_client_lists)).0)
+
+pub client_in-y-requires : goal.client_in-y-requires
+client_in-y-requires c = omega (arith, (client_lengths _ _ _ (told (goal.at.client_in-y-requires c).Else-not-are_client_lists)).2)
+
+pub put_client_reply-requires : goal.put_client_reply-requires
+put_client_reply-requires c =
+    let n = client_lengths _ _ _ (told (goal.at.put_client_reply-requires c).Else-not-are_client_lists) in
+    record { client_len = n.2; sent_len = n.1 }
+
+pub returns : goal.returns
+unfolding pass_time_left
+returns c =
+    replied (λ (b : Bool) (z : ClientReply). client_left b z c.args.client.now c.args.sent.now) _ _ (told (goal.at.returns c).Else-not-are_client_lists)
+    (reads (λ (f : Config) (y : Client). device_lapses f c.args.number c.args.reading y)
+    c.config_in-c.ensures c.client_in-y.ensures c.device_lapses-z.ensures)
+    c.put_client_reply.ensures

@@ -1,0 +1,38 @@
+use mathlib.Core.Path.{◌≡◌, sym, ◌∙◌}
+use mathlib.Core.Bool.{Bool, true}
+use native.Mathlib.Omega.{arith}
+use Rattle.types.specs.declared.Config.{Config}
+use Rattle.types.specs.declared.Server.{Server}
+use Rattle.device.specs.declared.ServerReply.{ServerReply}
+use Rattle.device.specs.Device.{device_noticed}
+use Rattle.firmware.specs.Firmware.{server_left, are_server_lists, take_notice_left}
+use Rattle.firmware.proofs.Laws.{server_lengths, codes_nothing, reads, replied}
+use Rattle.firmware.proofs.hoyllaqe_take_notice.Goals as goal
+use Rattle.firmware.proofs.hoyllaqe_take_notice.Goals.{Else-not-are_server_lists}
+
+-- the lists code what they stand for
+told : (c : Else-not-are_server_lists) → are_server_lists c.args.config.now c.args.server.now c.args.sent.now ≡ true
+told c = sym c.are_server_lists.ensures ∙ c.if-not-are_server_lists.false
+
+pub returns-then-not-are_server_lists : goal.returns-then-not-are_server_lists
+unfolding take_notice_left
+returns-then-not-are_server_lists c = codes_nothing _ _ _ _ _ _ _ (sym c.are_server_lists.ensures ∙ c.if-not-are_server_lists.true)
+
+pub config_in-c-requires : goal.config_in-c-requires
+config_in-c-requires c = omega (arith, (server_lengths _ _ _ (told (goal.at.config_in-c-requires c).Else-not-are_server_lists)).0)
+
+pub server_in-s-requires : goal.server_in-s-requires
+server_in-s-requires c = omega (arith, (server_lengths _ _ _ (told (goal.at.server_in-s-requires c).Else-not-are_server_lists)).2)
+
+pub put_server_reply-requires : goal.put_server_reply-requires
+put_server_reply-requires c =
+    let n = server_lengths _ _ _ (told (goal.at.put_server_reply-requires c).Else-not-are_server_lists) in
+    record { server_len = n.2; sent_len = n.1 }
+
+pub returns : goal.returns
+unfolding take_notice_left
+returns c =
+    replied (λ (b : Bool) (z : ServerReply). server_left b z c.args.server.now c.args.sent.now) _ _ (told (goal.at.returns c).Else-not-are_server_lists)
+    (reads (λ (f : Config) (s : Server). device_noticed f c.args.number c.args.reading s c.args.about c.args.says)
+    c.config_in-c.ensures c.server_in-s.ensures c.device_noticed-x.ensures)
+    c.put_server_reply.ensures
