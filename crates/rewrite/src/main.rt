@@ -2,10 +2,11 @@
 // those bytes. The writer is handed the configuration of the header and the steps of the records up to the first that is refused
 // with 3.
 ghost use Rattle.std.specs.Prelude.{◌+◌, ◌≤◌, length};
-ghost use Rattle.io.specs.Counts.{IsPrefixLen};
 
-use libc::{STDIN_FILENO, STDOUT_FILENO};
+use input::read_full;
 use script::FIRST_RECORD;
+use std::io;
+use std::io::Write;
 use types::{Config, Step};
 
 // A step is put into the rows, four numbers from place n on.
@@ -21,7 +22,7 @@ fn put_row(rows: &mut [u32], n: usize, s: Step)
 // The steps of a script in rows of four numbers, up to the first record that is refused with 3 or as many as there is room for.
 // Answers how many numbers they are.
 fn read_rows(s: &[u8], rows: &mut [u32]) -> usize
-    ensures { IsPrefixLen result rows.new }
+    ensures { result ≤ length rows.new }
 {
     let mut n = 0;
     let mut p = FIRST_RECORD;
@@ -41,24 +42,24 @@ fn read_rows(s: &[u8], rows: &mut [u32]) -> usize
 }
 
 // Writes the script of c and the rows into the buffer, and prints what the writer answers and what it wrote.
-fn print_again(c: Config, rows: &[u32], out: &mut [u8]) {
+fn print_again(to: &mut impl Write, c: Config, rows: &[u32], out: &mut [u8]) -> io::Result<()> {
     let w = writer::write(c, rows, out);
-    io::print_decimal(STDOUT_FILENO, w.refusal as u64);
-    io::write_all(STDOUT_FILENO, b" ");
-    io::print_decimal(STDOUT_FILENO, w.length as u64);
-    io::write_all(STDOUT_FILENO, b"\n");
-    io::write_all(STDOUT_FILENO, &out[..w.length]);
+    let refusal = w.refusal;
+    let size = w.length;
+    writeln!(to, "{refusal} {size}")?;
+    to.write_all(&out[..size])
 }
 
-fn main() {
+fn main(rt: HostRuntime) -> io::Result<()> {
     // one byte more than the longest script, so that a longer one is seen to be longer
     let mut script = [0u8; 65537];
-    let n = io::read_full(STDIN_FILENO, &mut script);
-    io::print_decimal(STDOUT_FILENO, script::verdict(&script[..n]) as u64);
-    io::write_all(STDOUT_FILENO, b"\n");
+    let n = read_full(&mut rt.stdin(), &mut script)?;
+    let verdict = script::verdict(&script[..n]);
+    let mut stdout = rt.stdout();
+    writeln!(stdout, "{verdict}")?;
     let h = script::header_in(&script[..n]);
     let mut rows = [0u32; 131072];
     let k = read_rows(&script[..n], &mut rows);
     let mut out = [0u8; 65536];
-    print_again(h.config, &rows[..k], &mut out);
+    print_again(&mut stdout, h.config, &rows[..k], &mut out)
 }

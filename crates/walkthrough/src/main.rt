@@ -4,10 +4,10 @@
 // The failover: client 0 is lent address 0 by server 0 and renews it until 200. Server 0 fails at 100. Server 1 leads from 110 on,
 // with 200 on record. At 110 and at 202 it has nothing to offer to client 1 (outcome 1); at 203 the record has passed by more
 // than 2Δ, and client 1 is lent the address until 213.
-ghost use Rattle.std.specs.Prelude.{◌≡◌};
+ghost use Rattle.std.specs.Prelude.{◌≡◌, IfOk};
 ghost use Rattle.rules.specs.Steps.{step as step'};
 
-use libc::STDOUT_FILENO;
+use std::io;
 use types::{Config, Facade, Step};
 
 // A step in four numbers: kind and fields.
@@ -26,32 +26,29 @@ const FAILOVER: [u32; 188] = [
 ];
 
 // The numbers of a line, separated by spaces.
-fn print_line(number: u64, refusal: u32, outcome: u32, time: u32, waiting: u32) {
-    io::print_decimal(STDOUT_FILENO, number);
-    print_field(refusal);
-    print_field(outcome);
-    print_field(time);
-    print_field(waiting);
-    io::write_all(STDOUT_FILENO, b"\n");
-}
-
-fn print_field(n: u32) {
-    io::write_all(STDOUT_FILENO, b" ");
-    io::print_decimal(STDOUT_FILENO, n as u64);
+fn print_line(
+    rt: &impl Print,
+    number: u64,
+    refusal: u32,
+    outcome: u32,
+    time: u32,
+    waiting: u32,
+) -> io::Result<()> {
+    println!(rt; "{number} {refusal} {outcome} {time} {waiting}")
 }
 
 // Takes a step, prints its line and gives the facade that it returns.
-fn take(f: Facade, number: u64, s: Step) -> Facade
-    ensures { result ≡ (step' f s).facade }
+fn take(rt: &impl Print, f: Facade, number: u64, s: Step) -> io::Result<Facade>
+    ensures { IfOk result (λ g. g ≡ (step' f s).facade) }
 {
     let x = facade::step(f, s);
     let g = x.facade;
-    print_line(number, x.refusal, x.outcome, g.time, g.waiting);
-    g
+    print_line(rt, number, x.refusal, x.outcome, g.time, g.waiting)?;
+    Ok(g)
 }
 
 // Takes the steps of a table, from the fresh facade of a configuration.
-fn walk(c: Config, rows: &[u32]) {
+fn walk(rt: &impl Print, c: Config, rows: &[u32]) -> io::Result<()> {
     let x = facade::start(c);
     let mut f = x.facade;
     let count = rows.len() / 4;
@@ -65,14 +62,13 @@ fn walk(c: Config, rows: &[u32]) {
             third: rows[at + 3],
         };
         n += 1;
-        f = take(f, n as u64, s);
+        f = take(rt, f, n as u64, s)?;
     }
-    io::write_all(STDOUT_FILENO, b"held");
-    print_field(facade::held_clients(f));
-    io::write_all(STDOUT_FILENO, b"\n");
+    let held = facade::held_clients(f);
+    println!(rt; "held {held}")
 }
 
-fn main() {
+fn main(rt: HostRuntime) -> io::Result<()> {
     let small = Config {
         servers: 2,
         clients: 1,
@@ -82,7 +78,7 @@ fn main() {
         mclt: 4,
         retention: 10,
     };
-    walk(small, &EXAMPLE);
+    walk(&rt, small, &EXAMPLE)?;
     let two = Config {
         servers: 2,
         clients: 2,
@@ -92,5 +88,5 @@ fn main() {
         mclt: 10,
         retention: 20,
     };
-    walk(two, &FAILOVER);
+    walk(&rt, two, &FAILOVER)
 }
