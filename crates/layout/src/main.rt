@@ -1,10 +1,11 @@
 // Scripts at the edges of the layout. First the verdict on each stored script that an argument names (`tests/stored_scripts.py`
 // makes them); then the example of document 01, written from its steps and read back; then what the writer answers at its own
 // edges, and the buffer after it.
-ghost use Rattle.std.specs.Prelude.{◌≡◌};
-
-use libc::STDOUT_FILENO;
+use input::read_full;
 use script::FIRST_RECORD;
+use std::fs::File;
+use std::io::Write;
+use std::{env, io};
 use types::Config;
 
 // The steps of the example, four numbers each: kind and fields.
@@ -16,124 +17,97 @@ const EXAMPLE: [u32; 56] = [
 // A pass of no time, then a step of no known kind: the first is refused.
 const TWO_WRONG: [u32; 8] = [1, 0, 0, 0, 99, 0, 0, 0];
 
-fn print_field(n: u32) {
-    io::write_all(STDOUT_FILENO, b" ");
-    io::print_decimal(STDOUT_FILENO, n as u64);
-}
-
 // The name of a script and its verdict.
-fn judge(i: usize) {
-    let mut path = io::buffer();
-    let n = os::arg(i, &mut path);
-    let fd = os::open_read(&path[..n]);
-    if fd < 0 {
-        os::fail(&path[..n]);
-        return;
-    }
+fn judge(to: &mut impl Write, name: &str, mut file: File) -> io::Result<()> {
     let mut bytes = [0u8; 65537];
-    let k = io::read_full(fd, &mut bytes);
-    libc::close(fd);
-    io::write_all(STDOUT_FILENO, &path[..n]);
-    print_field(script::verdict(&bytes[..k]));
-    io::write_all(STDOUT_FILENO, b"\n");
-}
-
-fn wide(x: u8) -> u64
-    ensures { result ≡ x }
-{
-    x as u64
+    let k = read_full(&mut file, &mut bytes)?;
+    let verdict = script::verdict(&bytes[..k]);
+    writeln!(to, "{name} {verdict}")
 }
 
 // Bytes in hexadecimal, on one line.
-fn print_bytes(b: &[u8]) {
-    let mut i = 0;
-    while i < b.len() {
-        io::print_hex(STDOUT_FILENO, wide(b[i]), 2);
-        i += 1;
+fn print_bytes(to: &mut impl Write, b: &[u8]) -> io::Result<()> {
+    for x in b {
+        write!(to, "{x:02x}")?;
     }
-    io::write_all(STDOUT_FILENO, b"\n");
+    writeln!(to)
 }
 
 // The steps of a script, a line for each: kind and fields.
-fn print_steps(s: &[u8]) {
+fn print_steps(to: &mut impl Write, s: &[u8]) -> io::Result<()> {
     let mut p = FIRST_RECORD;
     while p < s.len() {
         let r = script::record_at(s, p);
-        io::write_all(STDOUT_FILENO, b"step");
-        print_field(r.step.kind);
-        print_field(r.step.first);
-        print_field(r.step.second);
-        print_field(r.step.third);
-        io::write_all(STDOUT_FILENO, b"\n");
+        let x = r.step;
+        writeln!(to, "step {} {} {} {}", x.kind, x.first, x.second, x.third)?;
         p = r.next;
     }
+    Ok(())
 }
 
 // What the writer answers.
-fn print_written(w: script::Written) {
-    io::write_all(STDOUT_FILENO, b"written");
-    print_field(w.refusal);
-    io::write_all(STDOUT_FILENO, b" ");
-    io::print_decimal(STDOUT_FILENO, w.length as u64);
-    io::write_all(STDOUT_FILENO, b"\n");
+fn print_written(to: &mut impl Write, w: script::Written) -> io::Result<()> {
+    writeln!(to, "written {} {}", w.refusal, w.length)
 }
 
 // Writes into the buffer and prints the answer and the bytes after it.
-fn try_writer(c: Config, rows: &[u32], out: &mut [u8]) {
-    print_written(writer::write(c, rows, out));
-    print_bytes(out);
+fn try_writer(to: &mut impl Write, c: Config, rows: &[u32], out: &mut [u8]) -> io::Result<()> {
+    print_written(to, writer::write(c, rows, out))?;
+    print_bytes(to, out)
 }
 
 // The example of document 01.
-fn show_example(c: Config) {
+fn show_example(to: &mut impl Write, c: Config) -> io::Result<()> {
     let mut out = [0u8; 189];
-    try_writer(c, &EXAMPLE, &mut out);
-    print_field(script::verdict(&out));
-    io::write_all(STDOUT_FILENO, b"\n");
-    print_steps(&out);
+    try_writer(to, c, &EXAMPLE, &mut out)?;
+    let verdict = script::verdict(&out);
+    writeln!(to, " {verdict}")?;
+    print_steps(to, &out)
 }
 
 // A buffer longer than the script, as long, and one byte short, with no step and with the example.
-fn show_room(c: Config) {
+fn show_room(to: &mut impl Write, c: Config) -> io::Result<()> {
     let none = [0u32; 0];
     let mut long = [170u8; 39];
-    try_writer(c, &none, &mut long);
+    try_writer(to, c, &none, &mut long)?;
     let mut fitting = [170u8; 29];
-    try_writer(c, &none, &mut fitting);
+    try_writer(to, c, &none, &mut fitting)?;
     let mut short = [170u8; 28];
-    try_writer(c, &none, &mut short);
+    try_writer(to, c, &none, &mut short)?;
     let mut shorter = [170u8; 188];
-    try_writer(c, &EXAMPLE, &mut shorter);
+    try_writer(to, c, &EXAMPLE, &mut shorter)?;
+    Ok(())
 }
 
 // What is refused first, and a negative e.
-fn show_order(c: Config) {
+fn show_order(to: &mut impl Write, c: Config) -> io::Result<()> {
     let mut out = [170u8; 43];
-    try_writer(c, &TWO_WRONG, &mut out);
+    try_writer(to, c, &TWO_WRONG, &mut out)?;
     let unknown = [11, 0, 0, 0];
-    try_writer(c, &unknown, &mut out);
+    try_writer(to, c, &unknown, &mut out)?;
     let mut bad = c;
     bad.servers = 5;
-    try_writer(bad, &TWO_WRONG, &mut out);
+    try_writer(to, bad, &TWO_WRONG, &mut out)?;
     let e = wire::complement(-3);
     let back = [1, 5, 0, e];
-    try_writer(c, &back, &mut out);
+    try_writer(to, c, &back, &mut out)?;
+    Ok(())
 }
 
 // The most records that fit into 65,536 bytes, and one more.
-fn show_longest(c: Config) {
+fn show_longest(to: &mut impl Write, c: Config) -> io::Result<()> {
     let rows = [2u32; 43672];
     let mut out = [0u8; 70000];
-    print_written(writer::write(c, &rows[..43668], &mut out));
-    print_written(writer::write(c, &rows, &mut out));
+    print_written(to, writer::write(c, &rows[..43668], &mut out))?;
+    print_written(to, writer::write(c, &rows, &mut out))?;
+    Ok(())
 }
 
-fn main() {
-    let count = os::arg_count();
-    let mut i = 1;
-    while i < count {
-        judge(i);
-        i += 1;
+fn main(rt: HostRuntime) -> io::Result<()> {
+    let mut stdout = rt.stdout();
+    for name in env::args(&rt)?.skip(1) {
+        let file = File::open(&rt, name.as_str())?;
+        judge(&mut stdout, name.as_str(), file)?;
     }
     let c = Config {
         servers: 2,
@@ -144,8 +118,8 @@ fn main() {
         mclt: 4,
         retention: 10,
     };
-    show_example(c);
-    show_room(c);
-    show_order(c);
-    show_longest(c);
+    show_example(&mut stdout, c)?;
+    show_room(&mut stdout, c)?;
+    show_order(&mut stdout, c)?;
+    show_longest(&mut stdout, c)
 }
