@@ -16,3 +16,6 @@ pub mod Refusals
 pub mod Counts
 pub mod Actions
 pub mod Bounds
+pub mod Examples
+pub mod Edges
+pub mod Effects

@@ -18,11 +18,11 @@ use Rattle.rules.specs.Steps.{fresh}
 use Rattle.rules.specs.Examples.{answered, step_of, pass, fail, return, notice, discover, request, renew, deliver, lose, cleanup, config_of}
 
 -- a facade, a step, and the refusal and outcome that it has
-record Row : Type 0 where
-  given : Facade
-  asked : Step
-  refusal : ℕ
-  outcome : ℕ
+pub record Row : Type 0 where
+  pub given : Facade
+  pub asked : Step
+  pub refusal : ℕ
+  pub outcome : ℕ
 
 row : Facade → Step → ℕ → Row
 row f s n = record { given = f; asked = s; refusal = n; outcome = 0 }
@@ -410,23 +410,14 @@ steps = kinds ++ fields ++ names ++ conditions ++ passes ++ untrue ++ spent ++ c
 spoiled : Row → Row
 spoiled x = row (x.given ▷ heard 0 1 1000000001) x.asked 2
 
-table : List Row
+pub table : List Row
 table = configs ++ counts ++ stored ++ states ++ letters ++ steps ++ map spoiled steps
 
 -- to open this one is to open the table
-unfoldable answer_of : Row → Answer
+unfoldable pub answer_of : Row → Answer
 unfolding answered row row_outcome sound faulty ◌▷◌ at next ahead heard client server alive dead after back leading keeping reserves lends records writes mail write mixed minus greatest_end greatest_reading base awake silent loose new full granting offering configs counts stored states letters kinds fields names conditions passes untrue spent crowded sees outcomes pairs steps spoiled table
 answer_of x = answered x.given x.asked
 
--- the claim: the rules give what the table says
-edges_hold : map (λ x. (answer_of x).refusal ∷ (answer_of x).outcome ∷ []) table ≡ map (λ x. x.refusal ∷ x.outcome ∷ []) table
-unfolding answer_of
-edges_hold = refl
-
 -- "A refused step returns the facade it was given."
-after_refusal : Row → Facade
+unfoldable pub after_refusal : Row → Facade
 after_refusal x = cond (eqb x.refusal 0) x.given (answer_of x).facade
-
-edges_keep : map after_refusal table ≡ map (λ x. x.given) table
-unfolding answer_of after_refusal
-edges_keep = refl

@@ -34,7 +34,7 @@ through (g ∷ gs) x = through gs (g x)
 
 -- Changes to a server.
 
-abbrev server_of : Bool → ℕ → ℕ → List Bool → List Bool → List Reservation → List ℕ → List ℕ → List OpenWrite → Server
+abbrev pub server_of : Bool → ℕ → ℕ → List Bool → List Bool → List Reservation → List ℕ → List ℕ → List OpenWrite → Server
 server_of x c r b ls rs es vs ws =
     record { alive = x; changed = c; returned = r; believed = b; leads = ls; reserved = rs; lent = es; potlease = vs; writes = ws }
 
@@ -64,13 +64,13 @@ abbrev writes : ℕ → OpenWrite → Server → Server
 writes a w s = server_of s.alive s.changed s.returned s.believed s.leads s.reserved s.lent s.potlease (set s.writes a w)
 
 -- servers 0 to 2, and the unused place 3
-abbrev flags : Bool → Bool → Bool → Bool → List Bool
+abbrev pub flags : Bool → Bool → Bool → Bool → List Bool
 flags w x y z = w ∷ x ∷ y ∷ z ∷ []
 
-abbrev pending : ℕ → ℕ → List Bool → OpenWrite
+abbrev pub pending : ℕ → ℕ → List Bool → OpenWrite
 pending q v b = record { pending = Open q v; acked = b }
 
-abbrev shut : OpenWrite
+abbrev pub shut : OpenWrite
 shut = record { pending = Closed; acked = flags false false false false }
 
 -- Changes to a facade.
@@ -109,7 +109,7 @@ queue n ms f =
     facade_with f.config f.time f.next f.offsets f.servers f.notices f.clients (take 128 (ms ++ replicate 128 (message 77 88 99 (Ack 44 4000000000)))) n
 
 -- an emptied place
-abbrev none : Message
+abbrev pub none : Message
 none = record { sender = 0; receiver = 0; interaction = 0; body = Empty }
 
 -- The given facade: three servers, four clients (parties 3 to 6) and four addresses, with Δ = 2, ν = 10, μ = 50 and θ = 10, at
@@ -118,7 +118,7 @@ none = record { sender = 0; receiver = 0; interaction = 0; body = Empty }
 -- Each server leads addresses 1 and 2, and has reservations and open writes. Odd are: sets from place 3 on, addresses from 4
 -- on, server 3, clients from 4 on, messages from 3 on.
 
-abbrev numbered : ℕ → Bool → Server
+abbrev pub numbered : ℕ → Bool → Server
 numbered n x =
     server_of true 95 (40 + n) (flags true true true x)
     (false ∷ true ∷ true ∷ false ∷ true ∷ true ∷ replicate 26 false)
@@ -158,11 +158,11 @@ four =
     (odd ▷ configured (config_of 4 4 4 2 10 50 10) ▷ server 3 (life true 95 ∷ back 43 ∷ []) ▷ ahead 7 (pos 0))
 
 -- a facade, a step, and the outcome and the facade that it has
-record Row : Type 0 where
-  given : Facade
-  asked : Step
-  outcome : ℕ
-  gives : Facade
+pub record Row : Type 0 where
+  pub given : Facade
+  pub asked : Step
+  pub outcome : ℕ
+  pub gives : Facade
 
 abbrev row : Facade → Step → ℕ → List (Facade → Facade) → Row
 row f s n gs = record { given = f; asked = s; outcome = n; gives = through gs f }
@@ -362,32 +362,16 @@ others =
     ∷ row odd (cleanup 0) 0 (server 0 (reserved 1 Free ∷ reserved 2 Free ∷ reserved 3 Free ∷ []) ∷ [])
     ∷ [])
 
-table : List Row
+pub table : List Row
 table = passes ++ lives ++ noticed ++ asks ++ discovers ++ requests ++ renewals ++ written ++ write_acks ++ clients ++ others
 
 -- to open this one is to open the table
-unfoldable answer_of : Row → Answer
+unfoldable pub answer_of : Row → Answer
 unfolding answered ◌▷◌ minus passes lives noticed asks discovers requests renewals written write_acks clients others table
 answer_of x = answered x.given x.asked
 
--- the claim: the rules give what the table says
-effects_hold : map answer_of table ≡ map (λ x. record { refusal = 0; outcome = x.outcome; facade = x.gives }) table
-unfolding answer_of
-effects_hold = refl
-
--- What a server does by itself on its return: to its value the facade adds only that it is alive, and since when.
-return_holds :
-    after_return 101 (numbered 2 false)
-    ≡ record {
-      server = server_of true 95 101 (replicate 4 true) (replicate 32 false) (replicate 32 (record { state = Free })) (replicate 32 0) (numbered 2 false).potlease (replicate 32 shut);
-      outcome = 0;
-      outbox = record { count = 0; messages = replicate 4 none };
-    }
-unfolding after_return
-return_holds = refl
-
 -- How many clients hold: of 4 clients, of 5 (the fifth place holds), of all 32, and without the last.
-holding : List Facade
+unfoldable pub holding : List Facade
 holding =
     odd
     ∷ (odd ▷ configured (config_of 3 5 4 2 10 50 10))
@@ -396,32 +380,24 @@ holding =
     ∷ (odd ▷ client 2 Idle)
     ∷ []
 
-held_holds : map held_clients holding ≡ 1 ∷ 2 ∷ 29 ∷ 28 ∷ 0 ∷ []
-unfolding holding ◌▷◌ held_among counted is_holding ◌and◌
-held_holds = refl
-
 -- The answer to a configuration: all lower bounds, all upper bounds, and one past each. The facade is the fresh one in any case.
 
-abbrev begun : Config → Facade
+abbrev pub begun : Config → Facade
 begun c =
     facade_with c 0 1 (replicate 36 (pos 0))
     (replicate 4 (server_of true 0 0 (replicate 4 true) (replicate 32 false) (replicate 32 (record { state = Free })) (replicate 32 0) (replicate 32 0) (replicate 32 shut)))
     (replicate 16 0) (replicate 32 (record { state = Idle })) (replicate 128 none) 0
 
-abbrev begins : ℕ → Config → Answer
+abbrev pub begins : ℕ → Config → Answer
 begins n c = record { refusal = n; outcome = 0; facade = begun c }
 
-inside : List Config
+unfoldable pub inside : List Config
 inside = config_of 2 1 1 0 1 1 0 ∷ config_of 4 32 32 1000 10000 1000000 1000000 ∷ []
 
-outside : List Config
+unfoldable pub outside : List Config
 outside =
     config_of 1 1 1 0 1 1 0 ∷ config_of 2 0 1 0 1 1 0 ∷ config_of 2 1 0 0 1 1 0 ∷ config_of 2 1 1 0 0 1 0 ∷ config_of 2 1 1 0 1 0 0
     ∷ config_of 5 32 32 1000 10000 1000000 1000000 ∷ config_of 4 33 32 1000 10000 1000000 1000000 ∷ config_of 4 32 33 1000 10000 1000000 1000000
     ∷ config_of 4 32 32 1001 10000 1000000 1000000 ∷ config_of 4 32 32 1000 10001 1000000 1000000
     ∷ config_of 4 32 32 1000 10000 1000001 1000000 ∷ config_of 4 32 32 1000 10000 1000000 1000001
     ∷ []
-
-starts_hold : (map start (inside ++ outside) ≡ map (begins 0) inside ++ map (begins 2) outside) × (map fresh (inside ++ outside) ≡ map begun (inside ++ outside))
-unfolding answered start inside outside
-starts_hold = (refl, refl)

@@ -66,11 +66,11 @@ config_of s c a skew detection mclt retention = record { servers = s; clients = 
 
 -- Rows P1 to P12, with Δ=2, ν=5, μ=50, θ=10.
 
-row_config : ℕ → ℕ → Config
+unfoldable pub row_config : ℕ → ℕ → Config
 row_config s a = config_of s 1 a 2 5 50 10
 
 -- a server alive since c, with return reading r, that leads address 0 or does not; the reservation, lent end and record of that address
-server_of : ℕ → ℕ → Bool → Reserved → ℕ → ℕ → Server
+unfoldable pub server_of : ℕ → ℕ → Bool → Reserved → ℕ → ℕ → Server
 server_of c r led x l v = record {
   alive = true;
   changed = c;
@@ -84,12 +84,12 @@ server_of c r led x l v = record {
 }
 
 -- one of which nothing is asked
-plain : Server
+unfoldable pub plain : Server
 plain = server_of 0 0 false Free 0 0
 
 -- at true time t, with all notices at h, client 0 in state x and n messages; server 0's clock is 2 ahead and the client's 1
 -- behind, so that a clock is told from true time
-row_facade : ℕ → Server → Server → ℕ → State → List Message → ℕ → Facade
+unfoldable pub row_facade : ℕ → Server → Server → ℕ → State → List Message → ℕ → Facade
 row_facade t s₀ s₁ h x ms n = record {
   config = row_config 2 1;
   time = t;
@@ -103,36 +103,36 @@ row_facade t s₀ s₁ h x ms n = record {
 }
 
 -- at clock reading r of server 0, which is s
-server_row : ℕ → Server → Facade
+unfoldable pub server_row : ℕ → Server → Facade
 server_row r s = row_facade (r - 2) s plain (r - 2) Idle [] 0
 
 -- the same with a message from client 0 to server 0
-mail_row : ℕ → Server → Body → Facade
+unfoldable pub mail_row : ℕ → Server → Body → Facade
 mail_row r s b = row_facade (r - 2) s plain (r - 2) Idle (message 2 0 1 b ∷ []) 1
 
 -- at clock reading r of client 0, in state x, with a message from server 0 to it
-client_row : ℕ → State → Body → Facade
+unfoldable pub client_row : ℕ → State → Body → Facade
 client_row r x b = row_facade (r + 1) plain plain (r + 1) x (message 0 2 1 b ∷ []) 1
 
 -- What is read off an answer.
 
-bit : Bool → ℕ
+unfoldable pub bit : Bool → ℕ
 bit true = 1
 bit false = 0
 
-held_until : State → ℕ
+unfoldable pub held_until : State → ℕ
 held_until Idle = 0
 held_until (Asking q) = 0
 held_until (Offered q a) = 0
 held_until (Waiting q a) = 0
 held_until (Holding a e q) = e
 
-is_taken : Reserved → Bool
+unfoldable pub is_taken : Reserved → Bool
 is_taken Free = false
 is_taken (Taken q r) = true
 
 -- the end that a message names
-end_named : Body → ℕ
+unfoldable pub end_named : Body → ℕ
 end_named Empty = 0
 end_named Discover = 0
 end_named (Offer a) = 0
@@ -143,31 +143,31 @@ end_named (WriteAck a v) = v
 end_named (Ack a e) = e
 
 -- the ends in the waiting messages: after a grant the ack's and then the write's
-sent_ends : Facade → List ℕ
+unfoldable pub sent_ends : Facade → List ℕ
 sent_ends f = map (λ m. end_named m.body) (take f.waiting f.messages)
 
 -- refusal, outcome, and what else is read off
-reading : (Facade → List ℕ) → Answer → List ℕ
+unfoldable pub reading : (Facade → List ℕ) → Answer → List ℕ
 reading g x = x.refusal ∷ x.outcome ∷ g x.facade
 
 -- P12: three servers, alive or dead as x, y and z say, and each of them hears the truth about the others.
 -- The notices to a dead server, and about the receiver itself, are refused and change nothing.
-lives_if : ℕ → Bool → Facade → Facade
+unfoldable pub lives_if : ℕ → Bool → Facade → Facade
 lives_if k true f = f
 lives_if k false f = with_server f k (with_life (server_at f k) false 0)
 
-three_servers : Bool → Bool → Bool → Facade
+unfoldable pub three_servers : Bool → Bool → Bool → Facade
 three_servers x y z = lives_if 0 x (lives_if 1 y (lives_if 2 z (with_time (fresh (row_config 3 2)) 14 (replicate 36 (pos 0)))))
 
-notices : Bool → Bool → Bool → List Step
+unfoldable pub notices : Bool → Bool → Bool → List Step
 notices x y z =
     notice 0 0 (bit x) ∷ notice 0 1 (bit y) ∷ notice 0 2 (bit z) ∷ notice 1 0 (bit x) ∷ notice 1 1 (bit y) ∷ notice 1 2 (bit z) ∷ notice 2 0 (bit x) ∷ notice 2 1 (bit y) ∷ notice 2 2 (bit z) ∷ []
 
-leaders : ℕ → Facade → List ℕ
+unfoldable pub leaders : ℕ → Facade → List ℕ
 leaders a f = bit (leads_at (server_at f 0) a) ∷ bit (leads_at (server_at f 1) a) ∷ bit (leads_at (server_at f 2) a) ∷ []
 
 -- The questions of the table, each with the numbers that the paper gives for it, and what is answered after refusal and outcome.
-data Ask : Type 0 where
+pub data Ask : Type 0 where
   request_at : ℕ → ℕ → ℕ → Ask  -- record, clock, τ: lent end, end in the ack, end in the write
   lead_at : ℕ → ℕ → ℕ → Ask  -- return reading, clock, record: whether it leads, record
   renew_at : ℕ → ℕ → ℕ → Ask  -- old end, clock, lent end: lent end, end in the ack, end in the write
@@ -179,7 +179,7 @@ data Ask : Type 0 where
   ranks : ℕ → ℕ → Ask  -- servers, address: the ranks of servers 0, 1, 2 (no step)
   lead_when : Bool → Bool → Bool → Ask  -- which of three servers live: who leads address 1 (several steps)
 
-answer : Ask → List ℕ
+unfoldable pub answer : Ask → List ℕ
 answer (request_at v r t) =
     reading (λ f. lent_at (server_at f 0) 0 ∷ sent_ends f) (answered (mail_row r (server_of 0 0 true Free 0 v) (Request 0 t)) (deliver 0 0))
 answer (lead_at r' r v) =
@@ -197,14 +197,14 @@ answer (silent_to t t') =
 answer (ranks s a) = rank s a 0 ∷ rank s a 1 ∷ rank s a 2 ∷ []
 answer (lead_when x y z) = leaders 1 (run (three_servers x y z) (notices x y z))
 
-record Row : Type 0 where
-  ask : Ask
-  gives : List ℕ
+pub record Row : Type 0 where
+  pub ask : Ask
+  pub gives : List ℕ
 
-row : Ask → List ℕ → Row
+unfoldable pub row : Ask → List ℕ → Row
 row x g = record { ask = x; gives = g }
 
-table : List Row
+unfoldable pub table : List Row
 table =
     row (request_at 100 104 0) (0 ∷ 1 ∷ 0 ∷ [])  -- P1
     ∷ row (request_at 100 105 0) (0 ∷ 0 ∷ 155 ∷ 155 ∷ 155 ∷ [])  -- P2
@@ -233,30 +233,25 @@ table =
     ∷ row (lead_when true true false) (0 ∷ 1 ∷ 0 ∷ [])  -- P12, 1 comes before 0
     ∷ []
 
--- the claim: the rules give what the table says
-rows_hold : map (λ x. answer x.ask) table ≡ map (λ x. x.gives) table
-unfolding answered row_config server_of plain row_facade server_row mail_row client_row bit held_until is_taken end_named sent_ends reading lives_if three_servers notices leaders answer row table
-rows_hold = refl
-
 -- The run of the rig.
 
-rig : List Step
+unfoldable pub rig : List Step
 rig =
     pass 5 0 0 ∷ notice 0 1 1 ∷ notice 1 0 1 ∷ pass 5 0 0 ∷ notice 0 1 1 ∷ notice 1 0 1 ∷ pass 5 0 0
     ∷ discover 0 ∷ deliver 0 0 ∷ deliver 1 0 ∷ request 0 100 ∷ deliver 1 0 ∷ deliver 2 0 ∷ discover 0 ∷ []
 
-rig_start : Facade
+unfoldable pub rig_start : Facade
 rig_start = fresh (config_of 2 1 1 0 5 4 10)
 
 -- what is printed for each step but its number: refusal, outcome, true time, waiting messages
-line_of : Answer → List ℕ
+unfoldable pub line_of : Answer → List ℕ
 line_of x = x.refusal ∷ x.outcome ∷ x.facade.time ∷ x.facade.waiting ∷ []
 
-lines : Facade → List Step → List (List ℕ)
+unfoldable pub lines : Facade → List Step → List (List ℕ)
 lines f [] = []
 lines f (s ∷ ss) = line_of (answered f s) ∷ lines (answered f s).facade ss
 
-printed : List (List ℕ)
+unfoldable pub printed : List (List ℕ)
 printed =
     (0 ∷ 0 ∷ 5 ∷ 0 ∷ [])
     ∷ (0 ∷ 0 ∷ 5 ∷ 0 ∷ [])
@@ -273,8 +268,3 @@ printed =
     ∷ (0 ∷ 0 ∷ 15 ∷ 3 ∷ [])
     ∷ (7 ∷ 0 ∷ 15 ∷ 3 ∷ [])
     ∷ []
-
--- the fourteen lines, and the lease at the end: client 0 holds address 0 until 19, with 100 on record at server 0
-rig_holds : (lines rig_start rig ≡ printed) × (state_at (run rig_start rig) 0 ≡ Holding 0 19 1) × (potlease_at (server_at (run rig_start rig) 0) 0 ≡ 100)
-unfolding answered rig rig_start line_of lines printed
-rig_holds = (refl, refl, refl)
