@@ -1,4 +1,6 @@
 // Leaves on tests and numbers, each proved once: refusals, bounds, offsets and clocks.
+#![tactic(auto)]
+
 ghost use Rattle.std.specs.Prelude.{◌≡◌, ◌≤◌, max, nat_abs, ◌+ℤ◌};
 ghost use Rattle.rules.specs.Conditions.{◌and◌, ◌or◌, is_within, unless as unless'};
 ghost use Rattle.rules.specs.Clock.{clock_reading, not_negative, as_signed};

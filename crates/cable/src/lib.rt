@@ -1,6 +1,8 @@
 // The waiting messages, in the order sent: one is taken out, and what a step sends waits behind the rest.
 // A caller that keeps the messages in a local writes the loops of `removed` and `sent_behind` there, as handing the messages over
 // copies them: of the span of an exchange a place gets the message above it up to `rest`, then up to `last` a `message_sent`.
+#![tactic(auto)]
+
 ghost use Rattle.std.specs.Prelude.{◌≡◌, ◌≤◌, ◌<◌, T};
 ghost use Rattle.rules.specs.Messages.{removed as removed', sent_behind};
 ghost use Rattle.cable.specs.Exchange.{rest_of, room_for, exchanged as exchanged'};

@@ -1,4 +1,6 @@
 // What a client does, on its own value: c is the configuration, i its number, r its clock reading, x its state. And how many hold.
+#![tactic(auto)]
+
 ghost use Rattle.std.specs.Prelude.{◌≡◌, ◌<◌, ◌+◌, cond, ltb, get_or};
 ghost use Rattle.rules.specs.Messages.{nothing as nothing'};
 ghost use Rattle.rules.specs.Client.{is_offered, is_holding, reply as reply', broadcast as broadcast', lapsed as lapsed', discovers as discovers', requests as requests', renews as renews', asks_with, on_offer, expects as expects', on_ack, client_handles, client_receives};

@@ -1,4 +1,6 @@
 // True time, clocks and notice times: what a pass does, and the refusals that look at time.
+#![tactic(auto)]
+
 ghost use Rattle.std.specs.Prelude.{◌≡◌, false, ◌+◌, ◌≤◌, ◌<◌, nat_abs, get_or};
 ghost use Rattle.rules.specs.Conditions.{all};
 ghost use Rattle.rules.specs.Parts.{offset_of};

@@ -1,5 +1,7 @@
 // What the rules 4 to 12 decide of a step, by what they look at: w is the world, l the lives of the servers, x the state of the
 // client that the step names.
+#![tactic(auto)]
+
 ghost use Rattle.std.specs.Prelude.{◌≡◌, false, ltb, get_or};
 ghost use Rattle.types.specs.declared.State.TheVariants.{Idle};
 ghost use Rattle.rules.specs.Conditions.{unless as unless'};

@@ -1,4 +1,6 @@
 // What a party does to which something happens.
+#![tactic(auto)]
+
 ghost use Rattle.std.specs.Prelude.{◌≡◌, ◌+◌, ◌*◌, ◌≤◌, ◌<◌, T, nat_abs, set};
 ghost use Rattle.rules.specs.Parts.{with_life};
 ghost use Rattle.rules.specs.Messages.{nothing as nothing'};

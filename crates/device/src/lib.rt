@@ -1,6 +1,8 @@
 // What the firmware of one server, or of one client, calls. Nothing is trusted: what is refused, by the paper's number,
 // changes and sends nothing.
 // c is the configuration, r the clock reading; k and s are a server's number and value, i and y a client's.
+#![tactic(auto)]
+
 ghost use Rattle.std.specs.Prelude.{◌≡◌, true};
 ghost use Rattle.rules.specs.Conditions.{◌and◌, unless as unless'};
 ghost use Rattle.rules.specs.Steps.{malformed as malformed'};

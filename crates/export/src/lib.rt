@@ -1,6 +1,8 @@
 // What programs in other languages call: the project's functions on numbers and slices. Nothing is trusted: a list of the wrong
 // length, and one with a number that codes nothing, is refused with 2. A refusal leaves every list as it was, and gives outcome and
 // length 0. A facade that was put codes one again, so the next step can be taken of it.
+#![tactic(auto)]
+
 ghost use Rattle.std.specs.Prelude.{◌≡◌, true, length};
 ghost use Rattle.rules.specs.Steps.{step_of};
 ghost use Rattle.flat.specs.Flat.{codes_facade};
@@ -14,11 +16,10 @@ use flatten::{codes_facade, put_facade};
 use types::Step;
 
 // The fresh facade of a configuration.
-#[unsafe(no_mangle)]
-pub extern "C" fn hoyllaqe_fresh(config: &[u32], facade: &mut [u32]) -> u32
+pub fn hoyllaqe_fresh(config: &[u32], facade: &mut [u32]) -> u32
     ensures value { result ≡ fresh_refusal config.now (length facade.old) }
     ensures facade_after { facade.new ≡ fresh_numbers config.now facade.old }
-    ensures facade_after_2 { result ≡ 0 → codes_facade facade.new ≡ true }
+    ensures codes { result ≡ 0 → codes_facade facade.new ≡ true }
 {
     if config.len() != 7 {
         return 2;
@@ -36,8 +37,7 @@ pub extern "C" fn hoyllaqe_fresh(config: &[u32], facade: &mut [u32]) -> u32
 }
 
 // A step of a facade handed in, which becomes the next one.
-#[unsafe(no_mangle)]
-pub extern "C" fn hoyllaqe_step(
+pub fn hoyllaqe_step(
     facade: &mut [u32],
     kind: u32,
     first: u32,
@@ -48,7 +48,7 @@ pub extern "C" fn hoyllaqe_step(
     ensures value { result ≡ stepped_refusal facade.old (step_of kind first second third) }
     ensures facade_after { facade.new ≡ stepped_numbers facade.old (step_of kind first second third) }
     ensures outcome_after { outcome.new ≡ stepped_outcome facade.old (step_of kind first second third) }
-    ensures facade_after_2 { result ≡ 0 → codes_facade facade.new ≡ true }
+    ensures codes { result ≡ 0 → codes_facade facade.new ≡ true }
 {
     *outcome = 0;
     if !codes_facade(facade) {
@@ -71,21 +71,14 @@ pub extern "C" fn hoyllaqe_step(
 }
 
 // The first of refusals 1 to 5 that reading the script through meets.
-#[unsafe(no_mangle)]
-pub extern "C" fn hoyllaqe_verdict(script: &[u8]) -> u32
+pub fn hoyllaqe_verdict(script: &[u8]) -> u32
     ensures { result ≡ verdict' script.now }
 {
     script::verdict(script)
 }
 
 // The script of a configuration and of steps of four numbers each, and its length.
-#[unsafe(no_mangle)]
-pub extern "C" fn hoyllaqe_write(
-    config: &[u32],
-    steps: &[u32],
-    script: &mut [u8],
-    size: &mut usize,
-) -> u32
+pub fn hoyllaqe_write(config: &[u32], steps: &[u32], script: &mut [u8], size: &mut usize) -> u32
     ensures value { result ≡ written_refusal config.now steps.now (length script.old) }
     ensures script_after { script.new ≡ written_script config.now steps.now script.old }
     ensures size_after { size.new ≡ written_length config.now steps.now (length script.old) }
@@ -106,8 +99,7 @@ pub extern "C" fn hoyllaqe_write(
 }
 
 // What the program `rig` prints for a script, and how many bytes that is.
-#[unsafe(no_mangle)]
-pub extern "C" fn hoyllaqe_run(script: &[u8], output: &mut [u8]) -> usize
+pub fn hoyllaqe_run(script: &[u8], output: &mut [u8]) -> usize
     ensures value { result ≡ output_length script.now (length output.old) }
     ensures output_after { output.new ≡ output_into script.now output.old }
 {

@@ -1,4 +1,6 @@
 // A whole facade: fresh, a step of any kind, and how many clients hold.
+#![tactic(auto)]
+
 ghost use Rattle.std.specs.Prelude.{◌≡◌, ◌≤◌, ◌<◌, T};
 ghost use Rattle.types.specs.declared.Deed.TheVariants.{Serves, Asks};
 ghost use Rattle.rules.specs.Messages.{without_if};

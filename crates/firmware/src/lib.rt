@@ -1,6 +1,8 @@
 // What the firmware of one server, or of one client, links: the functions of crate `device` on numbers and slices. Nothing is
 // trusted: a list of the wrong length, and one with a number that codes nothing, is refused with 2. A refusal leaves every list
 // as it was, and gives outcome 0.
+#![tactic(auto)]
+
 ghost use Rattle.std.specs.Prelude.{true, ◌≡◌, length};
 ghost use Rattle.firmware.specs.Firmware.{leaves, server_left, are_server_lists, receive_message_left, take_notice_left, come_back_left, clean_up_left, client_left, are_client_lists, receive_reply_left, discover_left, request_left, renew_left, pass_time_left};
 

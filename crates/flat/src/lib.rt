@@ -1,4 +1,6 @@
 // Reading the flat form of a facade and its parts, from place `at` of a list of numbers on.
+#![tactic(auto)]
+
 ghost use Rattle.std.specs.Prelude.{◌≡◌, ◌+◌, ◌≤◌, length};
 ghost use Rattle.flat.specs.Blocks.{each_in};
 ghost use Rattle.flat.specs.Flat.{number_in, flag_in, offset_in, config_in, reserved_of, reservation_in, pending_of, write_in, server_in, state_of, client_in, body_of, message_in, facade_in};

@@ -1,5 +1,7 @@
 // The flat form of a facade and its parts put into a list of numbers, from place `at` on, and whether a list codes one.
 // What is put is of the shape that its type says, so it reads back.
+#![tactic(auto)]
+
 ghost use Rattle.std.specs.Prelude.{◌≡◌, ◌+◌, ◌≤◌, length};
 ghost use Rattle.std.specs.Int.{w32};
 ghost use Rattle.std.proofs.Common.{SFits};

@@ -3,6 +3,8 @@
 // of its numbers are not 0,
 // the place and the value of each of them, its length, at most 2,800, and the four numbers of the step; numbers are four
 // bytes, big-endian.
+#![tactic(auto)]
+
 ghost use Rattle.std.specs.Prelude.{◌≡◌, ◌≤◌, min, length, IfOk};
 ghost use Rattle.wire.specs.Numbers.{number_at};
 

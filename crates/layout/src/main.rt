@@ -1,6 +1,8 @@
 // Scripts at the edges of the layout. First the verdict on each stored script that an argument names (`tests/stored_scripts.py`
 // makes them); then the example of document 01, written from its steps and read back; then what the writer answers at its own
 // edges, and the buffer after it.
+#![tactic(auto)]
+
 use input::read_full;
 use script::FIRST_RECORD;
 use std::fs::File;

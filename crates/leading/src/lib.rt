@@ -1,5 +1,7 @@
 // Whether a server leads an address after a notice, and its record then: c is the configuration, k the server's number, r its
 // clock reading, b the set of servers that it now believes live.
+#![tactic(auto)]
+
 ghost use Rattle.std.specs.Prelude.{◌≡◌, ◌+◌, ◌%◌, ◌≤◌, ◌<◌};
 ghost use Rattle.rules.specs.Order.{is_first};
 ghost use Rattle.rules.specs.Server.{may_lead, raised as raised'};

@@ -1,6 +1,8 @@
 // What a server does with a discover, a request and a renewal: c is the configuration, k the server's number, r its clock
 // reading and b what it keeps for the address a.
 // The message comes from party p in interaction q.
+#![tactic(auto)]
+
 ghost use Rattle.std.specs.Prelude.{◌≡◌, true, false, ◌≤◌, ◌<◌, set, replicate};
 ghost use Rattle.rules.specs.Parts.{message};
 ghost use Rattle.rules.specs.Messages.{nothing as nothing', post as post', to_others};

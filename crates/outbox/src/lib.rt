@@ -1,4 +1,6 @@
 // What a party sends: an outbox of at most four messages, in the order sent.
+#![tactic(auto)]
+
 ghost use Rattle.std.specs.Prelude.{◌≡◌, ◌≤◌};
 ghost use Rattle.rules.specs.Parts.{message, no_message};
 ghost use Rattle.rules.specs.Messages.{nothing as nothing', post as post', post_unless, to_each, to_others};

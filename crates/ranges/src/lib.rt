@@ -1,4 +1,6 @@
 // Refusal 2: the ranges of a configuration and of a facade handed in.
+#![tactic(auto)]
+
 ghost use Rattle.std.specs.Prelude.{◌≡◌, ◌≤◌, ◌<◌};
 ghost use Rattle.rules.specs.Conditions.{◌and◌, all};
 ghost use Rattle.rules.specs.Parts.{server_at, state_at, message_at, offset_at, parties};

@@ -1,4 +1,6 @@
 // The run of a whole script: the lines that the rig prints, put into a lent buffer, all at once or piece by piece.
+#![tactic(auto)]
+
 ghost use Rattle.std.specs.Prelude.{◌≡◌, false, ◌≤◌, length};
 ghost use Rattle.wire.specs.Numbers.{over};
 ghost use Rattle.turns.specs.Turns.{lines_from, progress_from, UnderWay};

@@ -1,4 +1,6 @@
 // Lines of output put into a buffer, as bytes. Each function answers the place behind what it put.
+#![tactic(auto)]
+
 ghost use Rattle.std.specs.Prelude.{◌≡◌, [], ◌∷◌, ◌++◌, ◌+◌, ◌≤◌, ◌<◌, length};
 ghost use Rattle.wire.specs.Numbers.{over};
 ghost use Rattle.report.specs.Lines.{decimal, spaced, line_end, record_line, facade_line, held_line};

@@ -1,6 +1,8 @@
 // Reads a script and writes it again. Prints the verdict on the script; the writer's refusal and how many bytes it wrote; and
 // those bytes. The writer is handed the configuration of the header and the steps of the records up to the first that is refused
 // with 3.
+#![tactic(auto)]
+
 ghost use Rattle.std.specs.Prelude.{◌+◌, ◌≤◌, length};
 
 use input::read_full;

@@ -1,4 +1,6 @@
 // Runs the script on standard input and prints what its records do, piece by piece.
+#![tactic(auto)]
+
 use input::read_full;
 use std::io;
 use std::io::Write;

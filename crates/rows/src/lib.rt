@@ -1,5 +1,7 @@
 // The steps handed to the writer, in rows of four numbers, a kind and three fields: how long their records are, and what is
 // refused.
+#![tactic(auto)]
+
 ghost use Rattle.std.specs.Prelude.{◌≡◌, ◌+◌, ◌*◌, ◌≤◌, length};
 ghost use Rattle.rules.specs.Conditions.{unless};
 ghost use Rattle.script.specs.Layout.{records_of, first_record};

@@ -3,7 +3,7 @@
 -- is as it was given.
 -- Changes are written here part by part and share nothing with the rules. Unused places hold odd values, so that a rule that
 -- touches them is seen.
-use Rattle.std.specs.Prelude.{◌≡◌, refl, Bool, true, false, List, [], ◌∷◌, ◌++◌, map, ℕ, ◌+◌, ◌*◌, get_or, set, take, replicate, ℤ, pos, negsuc}
+use Rattle.std.specs.Prelude.{Bool, true, false, List, [], ◌∷◌, ◌++◌, map, ℕ, ◌+◌, ◌*◌, get_or, set, take, replicate, ℤ, pos, negsuc}
 use Rattle.types.specs.declared.Config.{Config}
 use Rattle.types.specs.declared.Reserved.{Reserved}
 use Rattle.types.specs.declared.Reserved.TheVariants.{Free, Taken}
@@ -20,10 +20,6 @@ use Rattle.types.specs.declared.Facade.{Facade}
 use Rattle.types.specs.declared.Step.{Step}
 use Rattle.types.specs.declared.Answer.{Answer}
 use Rattle.rules.specs.Parts.{message, no_server}
-use Rattle.rules.specs.Conditions.{◌and◌, counted}
-use Rattle.rules.specs.Server.{after_return}
-use Rattle.rules.specs.Client.{is_holding}
-use Rattle.rules.specs.Steps.{fresh, start, held_among, held_clients}
 use Rattle.rules.specs.Examples.{answered, pass, fail, return, notice, discover, request, renew, deliver, lose, cleanup, config_of}
 use Rattle.rules.specs.Edges.{◌▷◌, minus}
 

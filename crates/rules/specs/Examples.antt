@@ -1,6 +1,6 @@
 -- The worked examples of document 01: rows P1 to P12 and the run of the rig. Each is computed by `step` itself, refusal 2
 -- included, but for the ranks of P12.
-use Rattle.std.specs.Prelude.{◌≡◌, refl, Bool, true, false, List, [], ◌∷◌, ◌++◌, map, ℕ, ◌+◌, ◌-◌, set, take, replicate, pos, negsuc}
+use Rattle.std.specs.Prelude.{Bool, true, false, List, [], ◌∷◌, ◌++◌, map, ℕ, ◌+◌, ◌-◌, set, take, replicate, pos, negsuc}
 use Rattle.types.specs.declared.Config.{Config}
 use Rattle.types.specs.declared.Reserved.{Reserved}
 use Rattle.types.specs.declared.Reserved.TheVariants.{Free, Taken}

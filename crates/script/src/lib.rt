@@ -1,4 +1,6 @@
 // A script read: its header, its records one by one, and the verdict on the whole.
+#![tactic(auto)]
+
 ghost use Rattle.std.specs.Prelude.{◌≡◌, ◌+◌, ◌*◌, ◌≤◌, length, get_or};
 ghost use Rattle.script.specs.Layout.{fields_of, length_of, step_refusal, first_record};
 ghost use Rattle.script.specs.Reading.{config_read, no_config, is_script, header_in, no_step, field_in, step_in, is_framed, decode as decode', record_at, records_refusal, verdict as verdict'};

@@ -1,5 +1,7 @@
 // What is sealed in: a server's notices, return and cleanup, and the messages that it handles.
 // c is the configuration, k the server's number, r its clock reading, s its value. A server knows no facade and no true time.
+#![tactic(auto)]
+
 ghost use Rattle.std.specs.Prelude.{◌≡◌, cond, ◌≤◌, ◌<◌, T};
 ghost use Rattle.rules.specs.Ranges.{body_in_range, last_reading};
 ghost use Rattle.rules.specs.Messages.{nothing as nothing'};

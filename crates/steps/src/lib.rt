@@ -1,4 +1,6 @@
 // How a step is read: its kind decides it, and a step alone can break rules 4 and 5.
+#![tactic(auto)]
+
 ghost use Rattle.std.specs.Prelude.{◌≡◌};
 ghost use Rattle.rules.specs.Steps.{action_of, malformed as malformed'};
 

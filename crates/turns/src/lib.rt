@@ -1,4 +1,6 @@
 // The turns of a run: each record's step, and its line, put into a lent buffer.
+#![tactic(auto)]
+
 ghost use Rattle.std.specs.Prelude.{◌≡◌, true, ◌+◌, ◌≤◌, length};
 ghost use Rattle.wire.specs.Numbers.{over};
 ghost use Rattle.rules.specs.Steps.{held_among};

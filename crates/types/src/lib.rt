@@ -1,5 +1,6 @@
 // The data of document 01, what a step says and does, what the parties answer, and the parts that a facade is taken apart into.
 // A comment names the term of the paper where it differs.
+#![tactic(auto)]
 
 // The last true time.
 pub const LAST_TIME: u32 = 1000000000;

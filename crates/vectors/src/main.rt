@@ -1,5 +1,7 @@
 // Runs stored scripts, one after the other, and prints what the rig prints for each. Standard input has how many there are, then
 // for each its length, at most 65,537, and its bytes; numbers are four bytes, big-endian.
+#![tactic(auto)]
+
 ghost use Rattle.std.specs.Prelude.{◌≡◌, ◌≤◌, min, length, IfOk};
 ghost use Rattle.wire.specs.Numbers.{number_at};
 

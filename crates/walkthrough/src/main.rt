@@ -4,6 +4,8 @@
 // The failover: client 0 is lent address 0 by server 0 and renews it until 200. Server 0 fails at 100. Server 1 leads from 110 on,
 // with 200 on record. At 110 and at 202 it has nothing to offer to client 1 (outcome 1); at 203 the record has passed by more
 // than 2Δ, and client 1 is lent the address until 213.
+#![tactic(auto)]
+
 ghost use Rattle.std.specs.Prelude.{◌≡◌, IfOk};
 ghost use Rattle.rules.specs.Steps.{step as step'};
 

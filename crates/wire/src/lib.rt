@@ -1,4 +1,6 @@
 // Numbers as bytes, and bytes put into a buffer.
+#![tactic(auto)]
+
 ghost use Rattle.std.specs.Prelude.{◌≡◌, [], ◌∷◌, ◌+◌, ◌*◌, ◌≤◌, length};
 ghost use Rattle.wire.specs.Numbers.{number_at, bytes_of, complement as complement', over};
 

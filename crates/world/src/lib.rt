@@ -1,5 +1,7 @@
 // A facade taken apart into the world, its servers, clients and messages, and put together again. A run keeps the arrays
 // where they are, since what is handed on is copied, and hands on only what is looked at.
+#![tactic(auto)]
+
 ghost use Rattle.std.specs.Prelude.{◌≡◌};
 ghost use Rattle.rules.specs.Views.{world_of};
 ghost use Rattle.world.specs.Apart.{facade_of, lives_of, place_below};

@@ -1,4 +1,6 @@
 // A script written into a lent buffer.
+#![tactic(auto)]
+
 ghost use Rattle.std.specs.Prelude.{◌≡◌, cond, ◌∷◌, ◌+◌, ◌≤◌, eqb, length};
 ghost use Rattle.wire.specs.Numbers.{bytes_of, over};
 ghost use Rattle.script.specs.Layout.{step_refusal, header_of, record_of, records_of, first_record};

@@ -1,5 +1,7 @@
 // What a server does with a write and a write ack: c is the configuration, k the server's number, b what it keeps for the
 // address a. The message comes from party p in interaction q.
+#![tactic(auto)]
+
 ghost use Rattle.std.specs.Prelude.{◌≡◌, false, ◌≤◌, ◌<◌, get_or};
 ghost use Rattle.rules.specs.Conditions.{all};
 ghost use Rattle.rules.specs.Server.{on_write, matches_write, acknowledged as acknowledged', on_write_ack, closed as closed'};

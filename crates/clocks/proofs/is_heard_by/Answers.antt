@@ -1,8 +1,6 @@
 use mathlib.Core.Path.{refl}
-use Prim.Native.Nat.{◌-◌}
 use native.Mathlib.Omega.{arith}
 use Rattle.rules.specs.Conditions.{all}
-use Rattle.rules.specs.Steps.{has_heard}
 use Rattle.rules.proofs.Laws.{all_more, all_done}
 use Rattle.clocks.proofs.is_heard_by.Goals as goal
 

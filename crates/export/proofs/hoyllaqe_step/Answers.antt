@@ -8,7 +8,7 @@ use Rattle.export.proofs.hoyllaqe_step.Goals as goal
 
 pub returns-then-not-codes_facade : goal.returns-then-not-codes_facade
 returns-then-not-codes_facade c = let p = codes_nothing _ _ (sym c.codes_facade.ensures ∙ c.if-not-codes_facade.true) in
-    record { value = p.0; facade_after = p.1.0; outcome_after = p.1.1.0; facade_after_2 = p.1.1.1 }
+    record { value = p.0; facade_after = p.1.0; outcome_after = p.1.1.0; codes = p.1.1.1 }
 
 pub facade_in-requires : goal.facade_in-requires
 facade_in-requires c =
@@ -20,7 +20,7 @@ returns-then-x-ne0 c =
     let s : Step = record { kind = c.args.kind; first = c.args.first; second = c.args.second; third = c.args.third } in
     let e = c.step-x.ensures ∙ ap (λ (f : Facade). step f s) c.facade_in.ensures in
     let p = step_refused c.args.facade.now s coded e c.if-x-ne0.true in
-    record { value = p.0; facade_after = p.1.0; outcome_after = p.1.1.0; facade_after_2 = p.1.1.1 }
+    record { value = p.0; facade_after = p.1.0; outcome_after = p.1.1.0; codes = p.1.1.1 }
 
 pub put_facade-requires : goal.put_facade-requires
 put_facade-requires c =
@@ -32,4 +32,4 @@ returns c =
     let s : Step = record { kind = c.args.kind; first = c.args.first; second = c.args.second; third = c.args.third } in
     let e = c.step-x.ensures ∙ ap (λ (f : Facade). step f s) c.facade_in.ensures in
     let p = step_put c.args.facade.now s coded e c.if-x-ne0.false c.put_facade.ensures.facade_shaped c.put_facade.ensures.out_after in
-    record { value = p.0; facade_after = p.1.0; outcome_after = p.1.1.0; facade_after_2 = p.1.1.1 }
+    record { value = p.0; facade_after = p.1.0; outcome_after = p.1.1.0; codes = p.1.1.1 }

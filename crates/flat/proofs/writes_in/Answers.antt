@@ -1,5 +1,4 @@
 use mathlib.Core.Path.{refl}
-use Prim.Native.Nat.{◌-◌}
 use native.Mathlib.Omega.{arith}
 use Rattle.flat.proofs.Filling.{filled_none, filled_more, filled_all}
 use Rattle.flat.proofs.writes_in.Goals as goal

@@ -1,7 +1,5 @@
 use mathlib.Core.Path.{◌≡◌}
-use Prim.Native.Nat.{◌-◌}
 use native.Mathlib.Omega.{arith}
-use Rattle.rules.specs.Order.{rank}
 use Rattle.leading.proofs.Walk.{reached_start, reached_end, reached_other, reached_next, nearer}
 use Rattle.leading.proofs.is_first.Goals as goal
 

@@ -1,5 +1,4 @@
 use mathlib.Core.Path.{sym, ap, ◌∙◌}
-use Prim.Native.Nat.{◌-◌}
 use native.Mathlib.Omega.{arith}
 use Rattle.rules.specs.Conditions.{lowest}
 use Rattle.rules.proofs.Laws.{lowest_here, lowest_on, lowest_none}

@@ -1,8 +1,6 @@
 use mathlib.Core.Path.{refl, ap, ◌∙◌}
-use Prim.Native.Nat.{◌-◌}
 use native.Mathlib.Omega.{arith}
 use Rattle.rules.specs.Conditions.{all}
-use Rattle.rules.specs.Ranges.{notice_in_range}
 use Rattle.rules.proofs.Laws.{all_more}
 use Rattle.ranges.proofs.row_in_range.Goals as goal
 

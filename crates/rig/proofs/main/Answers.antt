@@ -1,5 +1,4 @@
 use Prim.Native.Nat.{ℕ}
-use native.Mathlib.Omega.{arith}
 use borrow.Author.Rules.{rules}
 use borrow.Author.Tests.{not-true}
 use lib.ListN.{replicate, length-replicate}

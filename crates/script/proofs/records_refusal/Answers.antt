@@ -1,5 +1,4 @@
 use mathlib.Core.Path.{refl, sym, ◌∙◌}
-use Prim.Native.Nat.{◌-◌}
 use Rattle.script.proofs.Walk.{leaves_less, none_from_the_end, stops_at, goes_past}
 use Rattle.script.proofs.records_refusal.Goals as goal
 
