@@ -1,5 +1,4 @@
-//! Links the static libraries that `rt staticlib export` and `rt staticlib firmware`
-//! make at the top of the repository.
+//! Links the static libraries that `tools/build export firmware` makes.
 
 use std::env;
 use std::path::Path;
@@ -10,7 +9,7 @@ fn main() {
     println!("cargo:rustc-link-search=native={}", folder.display());
     for library in ["export", "firmware"] {
         if !folder.join(format!("lib{library}.a")).exists() {
-            println!("cargo:warning=run `rt staticlib {library}` at the top of the repository first");
+            println!("cargo:warning=run `tools/build {library}` first");
         }
         println!("cargo:rustc-link-lib=static={library}");
         println!("cargo:rerun-if-changed={}", folder.join(format!("lib{library}.a")).display());
