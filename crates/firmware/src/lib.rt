@@ -27,7 +27,8 @@ fn put_server_reply(x: ServerReply, server: &mut [u32], sent: &mut [u32], outcom
     requires sent_len { length sent.old ≡ 29 }
     ensures { leaves result server.new sent.new outcome.new ≡ server_left true x server.old sent.old }
 {
-    if x.refusal != 0 {
+    let refused = x.refusal != 0;
+    if refused {
         *outcome = 0;
         return x.refusal;
     }

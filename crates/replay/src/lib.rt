@@ -61,7 +61,8 @@ pub fn put_output(s: &[u8], out: &mut [u8]) -> usize
     ensures value { result ≡ output_length s.now (length out.old) }
     ensures out_after { out.new ≡ output_into s.now out.old }
 {
-    if out.len() < MOST_OUTPUT {
+    let short = out.len() < MOST_OUTPUT;
+    if short {
         return 0;
     }
     let first = begin(s, out);

@@ -124,7 +124,8 @@ pub fn put_turns(s: &[u8], r: Progress, out: &mut [u8], start: usize, most: u32)
     let mut left = most;
     while 0 < left {
         let d = record_at(s, p);
-        if d.refusal == 3 {
+        let unread = d.refusal == 3;
+        if unread {
             return end_run(out, at, s.len() <= p, w, ss, ys, ms, p, k);
         }
         left -= 1;

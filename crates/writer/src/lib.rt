@@ -55,7 +55,8 @@ fn put_record(out: &mut [u8], at: usize, s: Step) -> usize
 {
     let n = fields_of(s.kind);
     put_first(out, at, (1 + 4 * n) as u8, s);
-    if n == 1 {
+    let single = n == 1;
+    if single {
         return at + 6;
     }
     put_number(out, at + 6, s.second);

@@ -24,14 +24,14 @@ end_run-requires c =
     let l = c.loop-left in
     (omega (arith, l.invariant.owed.0, l.invariant.same, l.invariant.room), omega (arith, l.invariant.way.counted, l.invariant.way.placed), waiting_high _ l.invariant.way.sound.0)
 
-pub shape_of-out-then-d-eq3 : goal.shape_of-out-then-d-eq3
-shape_of-out-then-d-eq3 c = omega (arith, c.loop-left.invariant.same)
+pub shape_of-out-then-unread : goal.shape_of-out-then-unread
+shape_of-out-then-unread c = omega (arith, c.loop-left.invariant.same)
 
-pub returns-then-d-eq3 : goal.returns-then-d-eq3
-returns-then-d-eq3 c =
+pub returns-then-unread : goal.returns-then-unread
+returns-then-unread c =
     let l = c.loop-left in
     let p = done _ _ c.args.s.now c.args.start c.args.most c.args.r c.world_of-w.result c.world_of-w.ensures c.end_run.result
-    (last_put l.invariant (l.left - 1) (omega (arith, c.loop-left-test.true)) _ c.record_at-d.ensures c.if-d-eq3.true _ refl (refl, c.end_run.ensures.out_after) _ c.end_run.ensures.value) in
+    (last_put l.invariant (l.left - 1) (omega (arith, c.loop-left-test.true)) _ c.record_at-d.ensures c.if-unread.true _ refl (refl, c.end_run.ensures.out_after) _ c.end_run.ensures.value) in
     record { progress_value = p.0; out_after = p.1 }
 
 pub overflow_sub-left : goal.overflow_sub-left
@@ -52,7 +52,7 @@ bounds-ms-from c = omega (arith, place_low 128 _ _ (omega arith) c.place_below-f
 pub decided-x-requires : goal.decided-x-requires
 decided-x-requires c =
     let l = c.loop-left in
-    (record { servers = l.ss; clients = l.ys; messages = l.ms; sound = l.invariant.way.sound }, as_read _ _ _ c.record_at-d.ensures c.if-d-eq3.false _ c.action_of.ensures)
+    (record { servers = l.ss; clients = l.ys; messages = l.ms; sound = l.invariant.way.sound }, as_read _ _ _ c.record_at-d.ensures c.if-unread.false _ c.action_of.ensures)
 
 -- what is decided
 turn : (c : After-decided-x) → let l = c.loop-left in Turn l.w l.ss l.ys l.ms c.record_at-d.result.step c.decided-x.result
@@ -231,7 +231,7 @@ loop-left-preserved c =
     let l = c.loop-left in
     let it = did (goal.at.loop-left-preserved c).Joined-happens (turn (goal.at.loop-left-preserved c).After-decided-x) in
     let exchanged = moving_done (c.loop-q-2.invariant.on c.loop-q.invariant) c.loop-q-2-test.false in
-    goes_round l.invariant (l.left - 1) (omega (arith, c.loop-left-test.true)) _ c.record_at-d.ensures c.if-d-eq3.false _ (all_put it c.span_of-to.ensures exchanged) refl it.servers it.clients (c.put_record_line-at.ensures.value, c.put_record_line-at.ensures.out_after)
+    goes_round l.invariant (l.left - 1) (omega (arith, c.loop-left-test.true)) _ c.record_at-d.ensures c.if-unread.false _ (all_put it c.span_of-to.ensures exchanged) refl it.servers it.clients (c.put_record_line-at.ensures.value, c.put_record_line-at.ensures.out_after)
 
 pub shape_of-out : goal.shape_of-out
 shape_of-out c = omega (arith, c.loop-left.invariant.same)
