@@ -66,6 +66,7 @@ fn bad_text() {
         ("facade 2 1 1 0 5 4 10\npass d=1 party=0 d=0", 2, "`e`"),
         ("facade 2 1 1 0 5 4 10\npass d=1 party=0 by=0", 2, "`by`"),
         ("facade 2 1 1 0 5 4 10\npass d=1 party=0 e=0 by=0", 2, "`by`"),
+        ("facade 2 1 1 0 5 4 10\npass d=1 0 0", 2, "`0`"),
         ("facade 2 1 1 0 5 4 10\npass d=1 7 e=0", 2, "`7`"),
         ("facade 2 1 1 0 5 4 10\nnotice 0 1 lively", 2, "`lively`"),
         ("facade 2 1 1 0 5 4 10\nfail -1", 2, "`-1`"),

@@ -1,4 +1,4 @@
-//! The functions of the static libraries, as `crates/export/src/lib.rt`,
+//! The functions of the static libraries, as `crates/export_c/src/lib.rt`,
 //! `crates/firmware/src/lib.rt` and `bindings/c/hoyllaqe.h` declare them. A slice is
 //! a pointer and a length.
 

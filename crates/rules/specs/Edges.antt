@@ -1,6 +1,6 @@
 -- The edges of the refusals from 2 on (3 is of bytes, and comes from no step): each bound, one past it, and steps that break
 -- two rules at once.
--- One table and one claim about it, computed by `step`.
+-- One table; the claims about it, computed by `step`, are in proofs/.
 use Rattle.std.specs.Prelude.{true, false, cond, List, [], ◌∷◌, ◌++◌, map, ℕ, ◌+◌, ◌-◌, ◌*◌, eqb, set, replicate, ℤ, pos, negsuc}
 use Rattle.types.specs.declared.Reserved.TheVariants.{Taken}
 use Rattle.types.specs.declared.Server.{Server}

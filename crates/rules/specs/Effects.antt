@@ -1,5 +1,5 @@
 -- What a step that is not refused does: a facade, the step, and the whole facade and the outcome that document 01 gives for it.
--- One table and one claim about it, computed by `step`. What is expected names each part that changes with its value; the rest
+-- One table; the claim about it, computed by `step`, is in proofs/. What is expected names each part that changes with its value; the rest
 -- is as it was given.
 -- Changes are written here part by part and share nothing with the rules. Unused places hold odd values, so that a rule that
 -- touches them is seen.

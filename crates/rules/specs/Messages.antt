@@ -19,8 +19,8 @@ post_unless false o m = post o m
 
 -- "Broadcasts go in server order": after what o holds, message m j goes to each server j below n but those left out
 unfoldable pub to_servers : (ℕ → Bool) → (ℕ → Message) → ℕ → Outbox → Outbox
-to_servers leftOut m zero o = o
-to_servers leftOut m (suc n) o = post_unless (leftOut n) (to_servers leftOut m n o) (m n)
+to_servers left_out m zero o = o
+to_servers left_out m (suc n) o = post_unless (left_out n) (to_servers left_out m n o) (m n)
 
 abbrev pub to_each : (ℕ → Message) → ℕ → Outbox → Outbox
 to_each m n o = to_servers (λ j. false) m n o
