@@ -1,7 +1,7 @@
 // Leaves on tests and numbers, each proved once: refusals, bounds, offsets and clocks.
 #![tactic(auto)]
 
-ghost use Rattle.std.specs.Prelude.{◌≡◌, ◌≤◌, max, nat_abs, ◌+ℤ◌};
+ghost use Rattle.std.specs.Prelude.{◌≡◌, ◌≤◌, nat_abs, ◌+ℤ◌};
 ghost use Rattle.rules.specs.Conditions.{◌and◌, ◌or◌, is_within, unless as unless'};
 ghost use Rattle.rules.specs.Clock.{clock_reading, not_negative, as_signed};
 ghost use Rattle.rules.specs.Ranges.{last_time};
@@ -25,13 +25,6 @@ pub fn unless(ok: bool, n: u32, below: u32) -> u32
     ensures { result ≡ unless' ok n below }
 {
     if ok { below } else { n }
-}
-
-// The larger of two numbers.
-pub fn larger(x: u32, y: u32) -> u32
-    ensures { result ≡ max x y }
-{
-    if x < y { y } else { x }
 }
 
 // Whether x lies between two bounds.

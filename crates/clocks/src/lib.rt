@@ -35,14 +35,7 @@ fn is_heard_by(c: Config, ts: [u32; 16], now: u32, k: u32) -> bool
     requires { (k < 4) × (c.servers ≤ 4) }
     ensures { result ≡ all (has_heard c ts now k) c.servers }
 {
-    let count = c.servers;
-    let mut ok = true;
-    let mut j = 0;
-    while j < count {
-        ok = both(has_heard(c, ts, now, k, j), ok);
-        j += 1;
-    }
-    ok
+    (0..c.servers).all(|j| has_heard(c, ts, now, k, j))
 }
 
 // Refusal 10: no live server is more than ν without a notice about another, by the notice times.
@@ -50,15 +43,7 @@ pub fn are_in_touch(c: Config, ts: [u32; 16], alive: [bool; 4], now: u32) -> boo
     requires { c.servers ≤ 4 }
     ensures { result ≡ are_in_touch c ts now (λ k. get_or alive k false) }
 {
-    let count = c.servers;
-    let mut ok = true;
-    let mut k = 0;
-    while k < count {
-        let at = k as usize;
-        ok = both(either(!alive[at], is_heard_by(c, ts, now, k)), ok);
-        k += 1;
-    }
-    ok
+    (0..c.servers).all(|k| either(!alive[k as usize], is_heard_by(c, ts, now, k)))
 }
 
 // True time and all clocks go on by d, and that of party p by e more.
@@ -78,18 +63,12 @@ pub fn holds_ended(w: World, ys: [Client; 32]) -> [Client; 32]
     requires { Configured w.config × (w.time ≤ last_time) }
     ensures { result ≡ holds_ended w.config w.time w.offsets ys }
 {
-    let c = w.config;
-    let count = c.clients;
+    let first = w.config.servers as usize;
+    let count = w.config.clients as usize;
     let mut out = ys;
-    let mut i = 0;
-    while i < count {
-        let at = i as usize;
-        let p = (c.servers + i) as usize;
-        let y = ys[at];
-        let state = y.state;
-        let left = client::lapsed(clock_reading(w.time, w.offsets[p]), state);
-        out[at] = Client { state: left };
-        i += 1;
+    for (i, y) in out[..count].iter_mut().enumerate() {
+        let r = clock_reading(w.time, w.offsets[first + i]);
+        y.state = client::lapsed(r, y.state);
     }
     out
 }

@@ -2,9 +2,8 @@
 use Rattle.std.specs.Prelude.{Bool, true, ℕ, ◌+◌, ◌≤◌, ◌<◌, T, ℤ, nat_abs}
 use Rattle.types.specs.declared.Config.{Config}
 use Rattle.types.specs.declared.Server.{Server}
-use Rattle.types.specs.declared.ServerAnswer.{ServerAnswer}
 use Rattle.types.specs.declared.Client.{Client}
-use Rattle.types.specs.declared.ClientAnswer.{ClientAnswer}
+use Rattle.types.specs.declared.Reaction.{Reaction}
 use Rattle.types.specs.declared.ClientEvent.{ClientEvent}
 use Rattle.types.specs.declared.World.{World}
 use Rattle.types.specs.declared.ServerEvent.{ServerEvent}
@@ -32,9 +31,9 @@ DeedInRange w (Serves k e) = (k < w.config.servers) × T (event_in_range w.confi
 DeedInRange w (Asks i e) = i < w.config.clients
 
 -- server k, whose clock is ahead by o, after an event at true time t: s is the server
-abbrev pub served_at : Config → ℕ → ℤ → ℕ → Server → ServerEvent → ServerAnswer
+abbrev pub served_at : Config → ℕ → ℤ → ℕ → Server → ServerEvent → Reaction Server
 served_at c t o k s e = server_after c t k (clock_reading t o) s e
 
 -- client i of world w after an event: y is the client
-abbrev pub asked_in : World → ℕ → Client → ClientEvent → ClientAnswer
+abbrev pub asked_in : World → ℕ → Client → ClientEvent → Reaction Client
 asked_in w i y e = client_after w.config w.next i (clock_of w.time w.offsets (client_party w.config i)) y.state e

@@ -12,8 +12,8 @@ use Rattle.types.specs.declared.State.TheVariants.{Idle}
 use Rattle.types.specs.declared.Client.{Client}
 use Rattle.types.specs.declared.Message.{Message}
 use Rattle.types.specs.declared.Outbox.{Outbox}
-use Rattle.types.specs.declared.ServerAnswer.{ServerAnswer}
-use Rattle.types.specs.declared.ClientAnswer.{ClientAnswer}
+use Rattle.types.specs.declared.Outcome.TheVariants.{Done}
+use Rattle.types.specs.declared.Reaction.{Reaction}
 use Rattle.rules.specs.Conditions.{◌and◌, unless}
 use Rattle.rules.specs.Views.{View}
 use Rattle.rules.specs.Ranges.{config_in_range, last_time, reading_in_range, server_in_range, state_in_range, is_server, body_in_range, message_in_range, after_last}
@@ -132,8 +132,8 @@ both_is a b p q t v e d h k = rw (← d, ← h, ← e, k)
 
 -- The answer x where the refusal n is 0, and else the party as it was. The code has the refusal as m.
 module _ (n m : ℕ) (e : m ≡ n) where
-  module _ (s : Server) (x : ServerAnswer) (z : ServerReply) where
-    pub server_takes : (w : ServerAnswer) → z ≡ server_took w → w ≡ x → m ≡ 0 → z ≡ server_guarded n s x
+  module _ (s : Server) (x : Reaction Server) (z : ServerReply) where
+    pub server_takes : (w : Reaction Server) → z ≡ server_took w → w ≡ x → m ≡ 0 → z ≡ server_guarded n s x
     unfolding server_guarded
     server_takes w d h o = rw (← e, o, d, h)
 
@@ -141,15 +141,11 @@ module _ (n m : ℕ) (e : m ≡ n) where
     unfolding server_guarded
     server_refuses d o = rw (← e, ne_eqb m 0 o) d
 
-  module _ (y : Client) (x : ClientAnswer) (z : ClientReply) where
-    pub client_takes : (w : ClientAnswer) → z ≡ client_took w → w ≡ x → m ≡ 0 → z ≡ client_guarded n y x
+  module _ (y : Client) (x : Reaction Client) (z : ClientReply) where
+    pub client_takes : (w : Reaction Client) → z ≡ client_took w → w ≡ x → m ≡ 0 → z ≡ client_guarded n y x
     unfolding client_guarded
     client_takes w d h o = rw (← e, o, d, h)
 
     pub client_refuses : z ≡ client_refused y m → (m ≡ 0 → ⊥) → z ≡ client_guarded n y x
     unfolding client_guarded
     client_refuses d o = rw (← e, ne_eqb m 0 o) d
-
--- time passes: the state x becomes w, and o is sent
-pub lapse_is : (r : ℕ) (x w : State) (o : Outbox) → w ≡ lapsed r x → o ≡ nothing → reply w 0 o ≡ reply (lapsed r x) 0 nothing
-lapse_is r x w o e d = rw (e, d)

@@ -9,14 +9,14 @@ use Rattle.types.specs.declared.State.{State}
 use Rattle.types.specs.declared.State.TheVariants.{Idle}
 use Rattle.types.specs.declared.Client.{Client}
 use Rattle.types.specs.declared.Message.{Message}
-use Rattle.types.specs.declared.ServerAnswer.{ServerAnswer}
-use Rattle.types.specs.declared.ClientAnswer.{ClientAnswer}
+use Rattle.types.specs.declared.Outcome.TheVariants.{Done}
+use Rattle.types.specs.declared.Reaction.{Reaction}
 use Rattle.rules.specs.Conditions.{◌and◌, unless}
 use Rattle.rules.specs.Parts.{client_party}
 use Rattle.rules.specs.Views.{View}
 use Rattle.rules.specs.Ranges.{config_in_range, last_time, after_last, reading_in_range, server_in_range, state_in_range, is_server, message_in_range}
-use Rattle.rules.specs.Messages.{nothing}
-use Rattle.rules.specs.Server.{answer, noticed, after_return, cleaned, server_receives}
+use Rattle.rules.specs.Messages.{nothing, answer}
+use Rattle.rules.specs.Server.{noticed, after_return, cleaned, server_receives}
 use Rattle.rules.specs.Client.{reply, lapsed, discovers, requests, renews, client_receives}
 use Rattle.rules.specs.Steps.{Action, notice, discover, request, renew, malformed, exists, state_allows, interaction_left}
 use Rattle.device.specs.declared.ServerReply.{ServerReply}
@@ -59,15 +59,15 @@ message_fits c p m = eqb m.receiver p and message_in_range c after_last m
 unfoldable pub server_fits : Config → ℕ → Server → Bool
 server_fits c r s = config_in_range c and reading_in_range r and server_in_range c last_time after_last s
 
-abbrev pub server_took : ServerAnswer → ServerReply
+abbrev pub server_took : Reaction Server → ServerReply
 server_took x = record { refusal = 0; answer = x }
 
 -- a refused server is as it was, and sends nothing
 abbrev pub server_refused : Server → ℕ → ServerReply
-server_refused s n = record { refusal = n; answer = answer s 0 nothing }
+server_refused s n = record { refusal = n; answer = answer s Done nothing }
 
 -- the answer x where nothing is refused
-unfoldable pub server_guarded : ℕ → Server → ServerAnswer → ServerReply
+unfoldable pub server_guarded : ℕ → Server → Reaction Server → ServerReply
 server_guarded n s x = cond (eqb n 0) (server_took x) (server_refused s n)
 
 unfoldable pub device_receives : Config → ℕ → ℕ → Server → Message → ServerReply
@@ -91,15 +91,15 @@ device_cleaned c k r s = server_guarded (own_refusal (server_fits c r s) (is_ser
 unfoldable pub client_fits : Config → ℕ → State → Bool
 client_fits c r x = config_in_range c and reading_in_range r and state_in_range c after_last x
 
-abbrev pub client_took : ClientAnswer → ClientReply
+abbrev pub client_took : Reaction Client → ClientReply
 client_took x = record { refusal = 0; answer = x }
 
 -- a refused client is as it was, and sends nothing
 abbrev pub client_refused : Client → ℕ → ClientReply
-client_refused y n = record { refusal = n; answer = reply y.state 0 nothing }
+client_refused y n = record { refusal = n; answer = reply y.state Done nothing }
 
 -- the answer x where nothing is refused
-unfoldable pub client_guarded : ℕ → Client → ClientAnswer → ClientReply
+unfoldable pub client_guarded : ℕ → Client → Reaction Client → ClientReply
 client_guarded n y x = cond (eqb n 0) (client_took x) (client_refused y n)
 
 unfoldable pub device_hears : Config → ℕ → ℕ → Client → Message → ClientReply
@@ -122,4 +122,4 @@ device_renews c i r y t q =
 
 -- time passes: a hold whose end is not above the clock ends
 unfoldable pub device_lapses : Config → ℕ → ℕ → Client → ClientReply
-device_lapses c i r y = client_guarded (own_refusal (client_fits c r y.state) (ltb i c.clients)) y (reply (lapsed r y.state) 0 nothing)
+device_lapses c i r y = client_guarded (own_refusal (client_fits c r y.state) (ltb i c.clients)) y (reply (lapsed r y.state) Done nothing)

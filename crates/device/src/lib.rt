@@ -5,6 +5,8 @@
 
 ghost use Rattle.std.specs.Prelude.{◌≡◌, true};
 ghost use Rattle.rules.specs.Conditions.{◌and◌, unless as unless'};
+ghost use Rattle.types.specs.declared.Outcome.TheVariants.{Done};
+ghost use Rattle.rules.specs.Messages.{nothing as nothing', answer};
 ghost use Rattle.rules.specs.Steps.{malformed as malformed'};
 ghost use Rattle.rules.proofs.Kept.{Configured};
 ghost use Rattle.device.specs.Device.{own_refusal, message_fits, server_fits, server_took, server_refused, device_receives, device_noticed, device_returned, device_cleaned, client_fits, client_took, client_refused, device_hears, device_discovers, device_requests, device_renews, device_lapses};
@@ -16,22 +18,22 @@ use outbox::nothing;
 use ranges::{config_in_range, message_in_range, server_in_range, state_in_range};
 use steps::malformed;
 use types::{
-    AFTER_LAST, Action, Client, ClientAnswer, Config, LAST_INTERACTION, LAST_READING, LAST_TIME,
-    Message, Server, ServerAnswer, State,
+    AFTER_LAST, Action, Client, Config, LAST_INTERACTION, LAST_READING, LAST_TIME, Message,
+    Outcome, Reaction, Server, State,
 };
 
 // What a server answers: the refusal or 0, then its value, the outcome and what it sends.
 #[derive(Clone, Copy)]
 pub struct ServerReply {
     pub refusal: u32,
-    pub answer: ServerAnswer,
+    pub answer: Reaction<Server>,
 }
 
 // The same of a client.
 #[derive(Clone, Copy)]
 pub struct ClientReply {
     pub refusal: u32,
-    pub answer: ClientAnswer,
+    pub answer: Reaction<Client>,
 }
 
 // Refusal 2 where something does not fit, 5 of what the step says, and else what the rules below give.
@@ -74,7 +76,7 @@ fn server_fits(c: Config, r: u32, s: Server) -> bool
 }
 
 // What the server answered, not refused.
-fn server_took(x: ServerAnswer) -> ServerReply
+fn server_took(x: Reaction<Server>) -> ServerReply
     ensures { result ≡ server_took x }
 {
     ServerReply {
@@ -87,15 +89,9 @@ fn server_took(x: ServerAnswer) -> ServerReply
 fn server_refused(s: Server, n: u32) -> ServerReply
     ensures { result ≡ server_refused s n }
 {
-    let none = nothing();
-    let same = ServerAnswer {
-        server: s,
-        outcome: 0,
-        outbox: none,
-    };
     ServerReply {
         refusal: n,
-        answer: same,
+        answer: server::done(s),
     }
 }
 
@@ -154,8 +150,19 @@ fn client_fits(c: Config, r: u32, x: State) -> bool
     both(config_in_range(c), fits)
 }
 
+// What a client is when something is done, with nothing sent.
+fn client_done(y: Client) -> Reaction<Client>
+    ensures { result ≡ answer y Done nothing' }
+{
+    Reaction {
+        after: y,
+        outcome: Outcome::Done,
+        outbox: nothing(),
+    }
+}
+
 // What the client answered, not refused.
-fn client_took(x: ClientAnswer) -> ClientReply
+fn client_took(x: Reaction<Client>) -> ClientReply
     ensures { result ≡ client_took x }
 {
     ClientReply {
@@ -168,15 +175,9 @@ fn client_took(x: ClientAnswer) -> ClientReply
 fn client_refused(y: Client, n: u32) -> ClientReply
     ensures { result ≡ client_refused y n }
 {
-    let none = nothing();
-    let same = ClientAnswer {
-        client: y,
-        outcome: 0,
-        outbox: none,
-    };
     ClientReply {
         refusal: n,
-        answer: same,
+        answer: client_done(y),
     }
 }
 
@@ -246,14 +247,7 @@ pub fn device_lapses(c: Config, i: u32, r: u32, y: Client) -> ClientReply
     if n != 0 {
         return client_refused(y, n);
     }
-    let none = nothing();
-    let after = Client {
+    client_took(client_done(Client {
         state: client::lapsed(r, x),
-    };
-    let done = ClientAnswer {
-        client: after,
-        outcome: 0,
-        outbox: none,
-    };
-    client_took(done)
+    }))
 }

@@ -22,10 +22,9 @@ use Rattle.types.specs.declared.ClientEvent.TheVariants.{Discovers, Requests, Re
 use Rattle.types.specs.declared.Deed.{Deed}
 use Rattle.types.specs.declared.Deed.TheVariants.{Rests, Passes, Serves, Asks}
 use Rattle.types.specs.declared.Decision.{Decision}
-use Rattle.types.specs.declared.ServerAnswer.{ServerAnswer}
-use Rattle.types.specs.declared.ClientAnswer.{ClientAnswer}
+use Rattle.types.specs.declared.Reaction.{Reaction}
+use Rattle.types.specs.Numbers.{outcome_number}
 use Rattle.types.specs.declared.Config.{Config}
-use Rattle.types.specs.declared.Outbox.{Outbox}
 use Rattle.types.specs.declared.World.{World}
 use Rattle.types.specs.declared.Lives.{Lives}
 use Rattle.rules.specs.Conditions.{◌and◌, is_within, unless, all}
@@ -36,7 +35,7 @@ use Rattle.rules.specs.Ranges.{in_range, is_server, message_in_range, Sound}
 use Rattle.rules.specs.Server.{noticed, cleaned}
 use Rattle.rules.specs.Client.{is_holding, is_offered}
 use Rattle.rules.specs.Views.{View, whole, at_hand}
-use Rattle.rules.specs.Steps.{Action, pass, fail, return, notice, discover, request, renew, deliver, lose, cleanup, unknown, action_of, fields_in_range, exists, state_allows, of_pass, time_left, clock_allows, in_touch, of_notice, is_credible, interaction_left, malformed, barred, broken, accepted, refused, delivered, deed_of, position, takes_out, taken_out, server_after, notices_after, client_after, next_after, moved_in, holds_ended, lapse, unless_refused, enacted, effect, step}
+use Rattle.rules.specs.Steps.{Action, pass, fail, return, notice, discover, request, renew, deliver, lose, cleanup, unknown, action_of, fields_in_range, exists, state_allows, of_pass, time_left, clock_allows, in_touch, of_notice, is_credible, interaction_left, malformed, barred, broken, refused, delivered, deed_of, position, takes_out, taken_out, server_after, notices_after, client_after, next_after, moved_in, holds_ended, lapse, unless_refused, enacted, effect, step}
 use Rattle.rules.proofs.Laws.{and_l, and_r, cond_case, unless_ok, not_eqb}
 use Rattle.rules.proofs.Kept.{ranged}
 use Rattle.rules.proofs.Refusals.{refused_first, unless_full_lem}
@@ -44,10 +43,9 @@ use Rattle.rules.proofs.Delivery.{for_client}
 use Rattle.rules.proofs.Counts.{few_received, few_discovers, few_requests, few_renews, few_replied}
 use Rattle.world.specs.Apart.{facade_of, lives_of, place_below}
 use Rattle.world.proofs.Laws.{place_named, sizes, waiting_high}
-use Rattle.cable.specs.Exchange.{rest_of, room_for, exchanged}
 use Rattle.decisions.specs.Decided.{decided}
 use Rattle.deeds.specs.Deeds.{event_in_range, DeedInRange, served_at, asked_in}
-use Rattle.facade.specs.Settled.{next_in, notices_in, waiting_in, settled, unless_full}
+use Rattle.facade.specs.Settled.{next_in, notices_in, settled, unless_full}
 
 -- The kinds of step.
 kinds : (s : Step) (P : Action → Type 0)
@@ -304,14 +302,14 @@ module _ (w : World) (ss : List Server) (ys : List Client) (ms : List Message) (
   passes_is true d q e h k = rw (k, h, none_more (w.waiting - 1))
   passes_is false d q e h k = rw (k, h, none_more w.waiting)
 
-  pub serves_is : (b : Bool) (k : ℕ) (e : ServerEvent) {z : ServerAnswer} {ts : List ℕ} → z ≡ served_at w.config w.time (offset_of w.offsets k) k (get_or ss k no_server) e
-      → ts ≡ notices_after w.notices w.time k e → enacted (out b) (Serves k e) ≡ settled (notices_in w ts) (set ss k z.server) ys ms p b z.outbox z.outcome
+  pub serves_is : (b : Bool) (k : ℕ) (e : ServerEvent) {z : Reaction Server} {ts : List ℕ} → z ≡ served_at w.config w.time (offset_of w.offsets k) k (get_or ss k no_server) e
+      → ts ≡ notices_after w.notices w.time k e → enacted (out b) (Serves k e) ≡ settled (notices_in w ts) (set ss k z.after) ys ms p b z.outbox (outcome_number z.outcome)
   unfolding enacted
   serves_is true k e h j = rw (h, j)
   serves_is false k e h j = rw (h, j)
 
-  pub asks_is : (b : Bool) (i : ℕ) (e : ClientEvent) {n : ℕ} {z : ClientAnswer} → z ≡ asked_in w i (get_or ys i no_client) e
-      → n ≡ next_after w.next e → enacted (out b) (Asks i e) ≡ settled (next_in w n) ss (set ys i z.client) ms p b z.outbox z.outcome
+  pub asks_is : (b : Bool) (i : ℕ) (e : ClientEvent) {n : ℕ} {z : Reaction Client} → z ≡ asked_in w i (get_or ys i no_client) e
+      → n ≡ next_after w.next e → enacted (out b) (Asks i e) ≡ settled (next_in w n) ss (set ys i z.after) ms p b z.outbox (outcome_number z.outcome)
   unfolding enacted
   asks_is true i e h j = rw (h, j)
   asks_is false i e h j = rw (h, j)
@@ -331,17 +329,6 @@ few_asked c few n i r x Discovers = few_discovers c i few x n
 few_asked c few n i r x (Requests t) = few_requests c i few x t
 few_asked c few n i r x (Renews t) = few_renews c i few x t n
 few_asked c few n i r x (Hears m) = few_replied r x m
-
--- The last test, on what is put together.
-module _ (f : Facade) (w : World) (ss : List Server) (ys : List Client) (p : ℕ) (b : Bool) (o : Outbox) (n : ℕ) (e : w.waiting ≡ f.waiting) {room : Bool} (q : room ≡ room_for f.waiting b o.count) where
-  pub settles_full : room ≡ false → refused f 13 ≡ unless_full f (settled w ss ys f.messages p b o n)
-  unfolding unless_full unless
-  settles_full h = rw (e, ← q, h)
-
-  pub settles : room ≡ true → {rest : ℕ} → rest ≡ rest_of f.waiting b → {g : Facade} → g ≡ facade_of (waiting_in w (rest + o.count)) ss ys (exchanged f.messages p f.waiting b o)
-      → accepted g n ≡ unless_full f (settled w ss ys f.messages p b o n)
-  unfolding unless_full unless
-  settles h r d = rw (d, e, ← q, h, r)
 
 -- A step of which no rule is broken but perhaps the last, by what happens.
 module _ {w : World} {ss : List Server} {ys : List Client} {ms : List Message} {s : Step} {l : Lives} {m : Message} {x : State} (h : Hand w ss ys ms s l m x)

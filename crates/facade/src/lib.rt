@@ -1,16 +1,12 @@
 // A whole facade: fresh, a step of any kind, and how many clients hold.
 #![tactic(auto)]
 
-ghost use Rattle.std.specs.Prelude.{◌≡◌, ◌≤◌, ◌<◌, T};
-ghost use Rattle.types.specs.declared.Deed.TheVariants.{Serves, Asks};
-ghost use Rattle.rules.specs.Messages.{without_if};
+ghost use Rattle.std.specs.Prelude.{◌≡◌, T};
 ghost use Rattle.rules.specs.Ranges.{in_range};
-ghost use Rattle.rules.specs.Views.{world_of};
-ghost use Rattle.rules.specs.Steps.{fresh as fresh', start as start', refused as refused', enacted, step as step', held_clients};
-ghost use Rattle.deeds.specs.Deeds.{DeedInRange};
-ghost use Rattle.facade.specs.Settled.{settled, unless_full};
+ghost use Rattle.rules.specs.Steps.{fresh as fresh', start as start', refused as refused', action_of, malformed as malformed', step as step', held_clients};
+ghost use Rattle.world.specs.Apart.{facade_of};
 
-use cable::{exchanged, rest_of, room_for};
+use cable::{exchange, room_for, waiting_then};
 use client::held_among;
 use clocks::{holds_ended, moved_in};
 use decisions::decided;
@@ -18,10 +14,7 @@ use deeds::{asked_in, next_after, notices_after, served_at};
 use outbox::nothing;
 use ranges::{config_in_range, in_range};
 use steps::{action_of, malformed};
-use types::{
-    Answer, Client, ClientEvent, Config, Deed, Facade, Outbox, Server, ServerEvent, State, Step,
-    World,
-};
+use types::{Answer, Client, Config, Deed, Facade, Message, Server, State, Step, World};
 use world::{facade_of, lives_of, place_below, world_of};
 
 // Before any step. All places are filled alike.
@@ -70,111 +63,95 @@ pub fn start(c: Config) -> Answer
     refused(f, 2)
 }
 
-// The facade after a step: w, ss and ys are its world, servers and clients, and of the messages of f that at p is taken out if
-// `taken`, and what was sent waits behind the rest. Refusal 13 is the last.
-fn settle(
-    f: Facade,
-    w: World,
-    ss: [Server; 4],
-    ys: [Client; 32],
-    p: u32,
-    taken: bool,
-    sent: Outbox,
-    outcome: u32,
-) -> Answer
-    requires { (f.waiting ≤ 128) × (w.waiting ≡ f.waiting) × (sent.count ≤ 4) × (T taken → p < f.waiting) }
-    ensures { result ≡ unless_full f (settled w ss ys f.messages p taken sent outcome) }
+// A step s of a facade in range that is apart: its refusal or 0, and its outcome. `malformed` is the refusal that its form gives it.
+// At hand are the message and the client with the number in its first field. What happens is put in, and then the messages are
+// exchanged. In a refused step nothing happens and no message is taken out, so that every step goes the same way.
+pub fn take_step(
+    w: &mut World,
+    ss: &mut [Server; 4],
+    ys: &mut [Client; 32],
+    ms: &mut [Message; 128],
+    s: Step,
+    malformed: u32,
+) -> (u32, u32)
+    requires { T (in_range (facade_of w.old ss.old ys.old ms.old)) × (malformed ≡ malformed' (action_of s) 0) }
+    ensures { record { refusal = result.0; outcome = result.1; facade = facade_of w.new ss.new ys.new ms.new } ≡ step' (facade_of w.old ss.old ys.old ms.old) s }
 {
-    if room_for(f.waiting, taken, sent.count) {
-        let ms = f.messages;
-        let rest = exchanged(ms, p, f.waiting, taken, sent);
-        let mut g = w;
-        g.waiting = rest_of(f.waiting, taken) + sent.count;
-        let h = facade_of(g, ss, ys, rest);
-        return Answer {
-            refusal: 0,
-            outcome: outcome,
-            facade: h,
-        };
-    }
-    refused(f, 13)
-}
-
-// An event of server k.
-fn serve(f: Facade, p: u32, taken: bool, k: u32, e: ServerEvent) -> Answer
-    requires { T (in_range f) × DeedInRange (world_of f) (Serves k e) × (T taken → p < f.waiting) }
-    ensures { result ≡ unless_full f (enacted (without_if f p taken) (Serves k e)) }
-{
-    let at = k as usize;
-    let mut ss = f.servers;
-    let s = ss[at];
-    let mut w = world_of(f);
-    let x = served_at(w.config, w.time, w.offsets[at], k, s, e);
-    let t = x.server;
-    ss[at] = t;
-    let now = notices_after(w, k, e);
-    w.notices = now;
-    let ys = f.clients;
-    let sent = x.outbox;
-    settle(f, w, ss, ys, p, taken, sent, x.outcome)
-}
-
-// An event of client i.
-fn ask(f: Facade, p: u32, taken: bool, i: u32, e: ClientEvent) -> Answer
-    requires { T (in_range f) × DeedInRange (world_of f) (Asks i e) × (T taken → p < f.waiting) }
-    ensures { result ≡ unless_full f (enacted (without_if f p taken) (Asks i e)) }
-{
-    let at = i as usize;
-    let mut ys = f.clients;
-    let y = ys[at];
-    let mut w = world_of(f);
-    let x = asked_in(w, i, y, e);
-    let z = x.client;
-    ys[at] = z;
-    w.next = next_after(w.next, e);
-    let ss = f.servers;
-    let sent = x.outbox;
-    settle(f, w, ss, ys, p, taken, sent, x.outcome)
-}
-
-// What happens in a facade in range, where the message at p is taken out first if `taken`.
-fn enact(f: Facade, p: u32, taken: bool, happens: Deed) -> Answer
-    requires { T (in_range f) × DeedInRange (world_of f) happens × (T taken → p < f.waiting) }
-    ensures { result ≡ unless_full f (enacted (without_if f p taken) happens) }
-{
-    let w = world_of(f);
-    let ss = f.servers;
-    let ys = f.clients;
-    let none = nothing();
+    let from = place_below(128, s.first);
+    let near = place_below(32, s.first);
+    let d = decided(
+        malformed,
+        *w,
+        lives_of(*ss),
+        ys[near],
+        ms[from],
+        action_of(s),
+    );
+    let mut refusal = d.refusal;
+    let mut taken = d.taken;
+    let mut outcome = 0;
+    let mut sent = nothing();
+    let happens = d.happens;
     match happens {
-        Deed::Rests => settle(f, w, ss, ys, p, taken, none, 0),
-        Deed::Passes(d, q, e) => {
-            let g = moved_in(w, d, q, e);
-            let left = holds_ended(g, ys);
-            settle(f, g, ss, left, p, taken, none, 0)
+        Deed::Rests => {}
+        Deed::Passes(time, q, e) => {
+            *w = moved_in(*w, time, q, e);
+            *ys = holds_ended(*w, *ys);
         }
-        Deed::Serves(k, e) => serve(f, p, taken, k, e),
-        Deed::Asks(i, e) => ask(f, p, taken, i, e),
+        Deed::Serves(k, e) => {
+            let at = k as usize;
+            let x = served_at(w.config, w.time, w.offsets[at], k, ss[at], e);
+            if room_for(w.waiting, taken, x.outbox.count) {
+                ss[at] = x.after;
+                w.notices = notices_after(*w, k, e);
+                sent = x.outbox;
+                outcome = u32::from(x.outcome);
+            } else {
+                refusal = 13;
+                taken = false;
+            }
+        }
+        Deed::Asks(i, e) => {
+            let at = i as usize;
+            let x = asked_in(*w, i, ys[at], e);
+            if room_for(w.waiting, taken, x.outbox.count) {
+                ys[at] = x.after;
+                w.next = next_after(w.next, e);
+                sent = x.outbox;
+                outcome = u32::from(x.outcome);
+            } else {
+                refusal = 13;
+                taken = false;
+            }
+        }
     }
+    exchange(ms, s.first, w.waiting, taken, &sent);
+    w.waiting = waiting_then(w.waiting, taken, sent.count);
+    (refusal, outcome)
 }
 
-// A step of a facade that is in range. At hand are the message and the client with the number in its first field.
+// A step of a facade that is in range.
 fn step_in_range(f: Facade, s: Step) -> Answer
     requires { T (in_range f) }
     ensures { result ≡ step' f s }
 {
-    let x = action_of(s);
-    let from = place_below(128, s.first);
-    let m = f.messages[from];
-    let near = place_below(32, s.first);
-    let y = f.clients[near];
-    let ss = f.servers;
-    let d = decided(malformed(x), world_of(f), lives_of(ss), y, m, x);
-    if d.refusal != 0 {
-        return refused(f, d.refusal);
+    let mut w = world_of(f);
+    let mut ss = f.servers;
+    let mut ys = f.clients;
+    let mut ms = f.messages;
+    let (refusal, outcome) = take_step(
+        &mut w,
+        &mut ss,
+        &mut ys,
+        &mut ms,
+        s,
+        malformed(action_of(s)),
+    );
+    Answer {
+        refusal: refusal,
+        outcome: outcome,
+        facade: facade_of(w, ss, ys, ms),
     }
-    let happens = d.happens;
-    enact(f, s.first, d.taken, happens)
 }
 
 // The answer to a step, for every facade, kind number and fields.

@@ -32,12 +32,9 @@ fn put_server_reply(x: ServerReply, server: &mut [u32], sent: &mut [u32], outcom
         *outcome = 0;
         return x.refusal;
     }
-    let answer = x.answer;
-    let after = answer.server;
-    let messages = answer.outbox;
-    put_server(server, 0, after);
-    put_outbox(sent, 0, messages);
-    *outcome = answer.outcome;
+    put_server(server, 0, x.answer.after);
+    put_outbox(sent, 0, x.answer.outbox);
+    *outcome = u32::from(x.answer.outcome);
     0
 }
 
@@ -156,12 +153,9 @@ fn put_client_reply(z: ClientReply, client: &mut [u32], sent: &mut [u32], outcom
         *outcome = 0;
         return z.refusal;
     }
-    let answer = z.answer;
-    let after = answer.client;
-    let messages = answer.outbox;
-    put_client(client, 0, after);
-    put_outbox(sent, 0, messages);
-    *outcome = answer.outcome;
+    put_client(client, 0, z.answer.after);
+    put_outbox(sent, 0, z.answer.outbox);
+    *outcome = u32::from(z.answer.outcome);
     0
 }
 

@@ -9,10 +9,9 @@ use lib.Dec.{eqb}
 use lib.ListN.{length, length-append}
 use mir.Syntax.{w32}
 use mir.Val.{SFits}
-use Rattle.types.specs.declared.Reserved.{Reserved}
-use Rattle.types.specs.declared.Reserved.TheVariants.{Free, Taken}
+use Rattle.std.specs.Prelude.{Option, Some, None}
+use Rattle.types.specs.declared.Reservation.{Reservation}
 use Rattle.types.specs.declared.Pending.{Pending}
-use Rattle.types.specs.declared.Pending.TheVariants.{Closed, Open}
 use Rattle.types.specs.declared.OpenWrite.{OpenWrite}
 use Rattle.types.specs.declared.Server.{Server}
 use Rattle.types.specs.declared.State.{State}
@@ -25,7 +24,7 @@ use Rattle.types.specs.declared.Outbox.{Outbox}
 use Rattle.types.specs.declared.Facade.{Facade}
 use Rattle.wire.proofs.Numbers.{complement_signed}
 use Rattle.flat.specs.Blocks.{each, each_in}
-use Rattle.flat.specs.Flat.{plain, number_in, flag_number, flag_numbers, flag_in, offset_numbers, offset_in, config_numbers, config_in, reserved_numbers, reserved_of, reservation_numbers, reservation_in, pending_numbers, pending_of, write_numbers, write_in, leading_numbers, ends_numbers, server_numbers, server_in, state_numbers, state_of, client_numbers, client_in, body_numbers, body_of, message_numbers, message_in, outbox_numbers, outbox_in, times_numbers, facade_numbers, facade_in, codes_facade, codes_server, codes_client, codes_message}
+use Rattle.flat.specs.Flat.{plain, number_in, flag_number, flag_numbers, flag_in, offset_numbers, offset_in, config_numbers, config_in, reserved_of, reservation_numbers, reservation_in, pending_numbers, pending_of, write_numbers, write_in, leading_numbers, ends_numbers, server_numbers, server_in, state_numbers, state_of, client_numbers, client_in, body_numbers, body_of, message_numbers, message_in, outbox_numbers, outbox_in, times_numbers, facade_numbers, facade_in, codes_facade, codes_server, codes_client, codes_message}
 use Rattle.flat.specs.Shape.{Has, WriteShaped, ServerShaped, OutboxShaped, FacadeShaped}
 use Rattle.flat.proofs.Blocks.{Holds, holds_left, holds_right, holds_all, Back, Any, many_any, array_back, own_coded, codes_own}
 
@@ -80,29 +79,29 @@ config_back = record { width = λ c s. refl; reads = λ c s l p h. config_window
 
 -- Cases.
 
-reserved_width : (x : Reserved) → length (reserved_numbers x) ≡ 3
-reserved_width Free = refl
-reserved_width (Taken q r) = refl
+reservation_width : (x : Option Reservation) → length (reservation_numbers x) ≡ 3
+reservation_width None = refl
+reservation_width (Some x) = refl
 
-reserved_own : (x : Reserved) → reserved_of (number_in (reserved_numbers x) 0) (number_in (reserved_numbers x) 1) (number_in (reserved_numbers x) 2) ≡ x
+reservation_own : (x : Option Reservation) → reservation_in (reservation_numbers x) 0 ≡ x
 unfolding reserved_of
-reserved_own Free = refl
-reserved_own (Taken q r) = refl
+reservation_own None = refl
+reservation_own (Some x) = refl
 
 pub reservation_back : Back Any reservation_numbers reservation_in 3
 reservation_back = record {
-  width = λ x s. reserved_width x.state;
-  reads = λ x s l p h. reservation_window l p (reservation_numbers x) h (reserved_width x.state) ∙ ap (λ (y : Reserved). record { state = y }) (reserved_own x.state);
+  width = λ x s. reservation_width x;
+  reads = λ x s l p h. reservation_window l p (reservation_numbers x) h (reservation_width x) ∙ reservation_own x;
 }
 
-pub pending_width : (x : Pending) → length (pending_numbers x) ≡ 3
-pending_width Closed = refl
-pending_width (Open q v) = refl
+pub pending_width : (x : Option Pending) → length (pending_numbers x) ≡ 3
+pending_width None = refl
+pending_width (Some x) = refl
 
-pending_own : (x : Pending) → pending_of (number_in (pending_numbers x) 0) (number_in (pending_numbers x) 1) (number_in (pending_numbers x) 2) ≡ x
+pending_own : (x : Option Pending) → pending_of (number_in (pending_numbers x) 0) (number_in (pending_numbers x) 1) (number_in (pending_numbers x) 2) ≡ x
 unfolding pending_of
-pending_own Closed = refl
-pending_own (Open q v) = refl
+pending_own None = refl
+pending_own (Some x) = refl
 
 state_width : (x : State) → length (state_numbers x) ≡ 4
 state_width Idle = refl

@@ -65,7 +65,7 @@ module _ {A : Type 0} (g : ℕ → A) (xs : List A) (h : (i : ℕ) → i < lengt
       ∙ ap (λ (y : A). take n xs ++ (y ∷ [])) (h n (omega arith))
       ∙ sym (take-suc xs n (g 0) (omega arith))
 
-  table_back : (n : ℕ) → length xs ≡ n → table g n ≡ xs
+  pub table_back : (n : ℕ) → length xs ≡ n → table g n ≡ xs
   table_back n e = table_front n (omega arith) ∙ take_all n xs (omega arith)
 
 -- Each value of the shape P has w numbers, and where a list holds them they read as the value.
@@ -84,17 +84,17 @@ each_any (x ∷ xs) = (tt, each_any xs)
 pub many_any : {A : Type 0} (n : ℕ) (xs : List A) → length xs ≡ n → Has n Any xs
 many_any n xs e = record { many = e; each = each_any xs }
 
-each_imp : {A : Type 0} (P Q : A → Type 0) → ((x : A) → P x → Q x) → (xs : List A) → Each P xs → Each Q xs
+pub each_imp : {A : Type 0} (P Q : A → Type 0) → ((x : A) → P x → Q x) → (xs : List A) → Each P xs → Each Q xs
 each_imp P Q f [] e = tt
 each_imp P Q f (x ∷ xs) e = (f x e.0, each_imp P Q f xs e.1)
 
 -- Two lists are the same numbers, and a list that codes something.
 
-same_self : (l : List ℕ) → T (is_same l l)
+pub same_self : (l : List ℕ) → T (is_same l l)
 unfolding is_same
 same_self l = and_both _ _ (eqb_refl (length l)) (all_by _ (length l) (λ i h. eqb_refl (get_or l i 0)))
 
-same_eq : (v l : List ℕ) → T (is_same v l) → v ≡ l
+pub same_eq : (v l : List ℕ) → T (is_same v l) → v ≡ l
 unfolding is_same
 same_eq v l t =
     let e = eqb→eq (length v) (length l) (and_l _ _ t) in

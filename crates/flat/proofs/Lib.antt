@@ -1,3 +1,3 @@
 pub mod Blocks
 pub mod Back
-pub mod Filling
+pub mod Made

@@ -1,12 +1,9 @@
 -- The flat form (docs/FLAT-FORM.md): for each type its numbers, and the reading from place p of a list on. Every list reads as
 -- something: a number past the end is 0, a flag is set if its number is 1, and a case that there is not is the first one.
-use Rattle.std.specs.Prelude.{Bool, cond, List, [], ◌∷◌, ◌++◌, ℕ, ◌+◌, eqb, ℤ, get_or}
+use Rattle.std.specs.Prelude.{Bool, cond, List, [], ◌∷◌, ◌++◌, ℕ, ◌+◌, eqb, ℤ, get_or, Option, Some, None}
 use Rattle.types.specs.declared.Config.{Config}
-use Rattle.types.specs.declared.Reserved.{Reserved}
-use Rattle.types.specs.declared.Reserved.TheVariants.{Free, Taken}
 use Rattle.types.specs.declared.Reservation.{Reservation}
 use Rattle.types.specs.declared.Pending.{Pending}
-use Rattle.types.specs.declared.Pending.TheVariants.{Closed, Open}
 use Rattle.types.specs.declared.OpenWrite.{OpenWrite}
 use Rattle.types.specs.declared.Server.{Server}
 use Rattle.types.specs.declared.State.{State}
@@ -18,7 +15,7 @@ use Rattle.types.specs.declared.Message.{Message}
 use Rattle.types.specs.declared.Outbox.{Outbox}
 use Rattle.types.specs.declared.Facade.{Facade}
 use Rattle.rules.specs.Clock.{as_signed}
-use Rattle.rules.specs.Parts.{in_state, message}
+use Rattle.rules.specs.Parts.{taken, open_write, in_state, message}
 use Rattle.wire.specs.Numbers.{complement}
 use Rattle.flat.specs.Blocks.{each, each_in, codes}
 
@@ -63,27 +60,24 @@ config_in l p = record {
 
 -- "the reservation: 0, 0, 0 for none; 1, κ, clock reading"
 
-abbrev pub reserved_numbers : Reserved → List ℕ
-reserved_numbers Free = 0 ∷ 0 ∷ 0 ∷ []
-reserved_numbers (Taken q r) = 1 ∷ q ∷ r ∷ []
+abbrev pub reservation_numbers : Option Reservation → List ℕ
+reservation_numbers None = 0 ∷ 0 ∷ 0 ∷ []
+reservation_numbers (Some x) = 1 ∷ x.interaction ∷ x.reading ∷ []
 
-unfoldable pub reserved_of : ℕ → ℕ → ℕ → Reserved
-reserved_of k a b = cond (eqb k 1) (Taken a b) Free
+unfoldable pub reserved_of : ℕ → ℕ → ℕ → Option Reservation
+reserved_of k a b = cond (eqb k 1) (taken a b) None
 
-abbrev pub reservation_numbers : Reservation → List ℕ
-reservation_numbers x = reserved_numbers x.state
-
-abbrev pub reservation_in : List ℕ → ℕ → Reservation
-reservation_in l p = record { state = reserved_of (number_in l p) (number_in l (p + 1)) (number_in l (p + 2)) }
+abbrev pub reservation_in : List ℕ → ℕ → Option Reservation
+reservation_in l p = reserved_of (number_in l p) (number_in l (p + 1)) (number_in l (p + 2))
 
 -- "the open write: 0, 0, 0 for none; 1, κ, end; then for each server a flag: acknowledged"
 
-abbrev pub pending_numbers : Pending → List ℕ
-pending_numbers Closed = 0 ∷ 0 ∷ 0 ∷ []
-pending_numbers (Open q v) = 1 ∷ q ∷ v ∷ []
+abbrev pub pending_numbers : Option Pending → List ℕ
+pending_numbers None = 0 ∷ 0 ∷ 0 ∷ []
+pending_numbers (Some x) = 1 ∷ x.interaction ∷ x.end ∷ []
 
-unfoldable pub pending_of : ℕ → ℕ → ℕ → Pending
-pending_of k a b = cond (eqb k 1) (Open a b) Closed
+unfoldable pub pending_of : ℕ → ℕ → ℕ → Option Pending
+pending_of k a b = cond (eqb k 1) (open_write a b) None
 
 unfoldable pub write_numbers : OpenWrite → List ℕ
 write_numbers w = pending_numbers w.pending ++ each flag_numbers w.acked

@@ -1,36 +1,77 @@
-// Reading the flat form of a facade and its parts, from place `at` of a list of numbers on.
+// Reading the flat form of a facade and its parts, from place `at` of a list of numbers on. The list stays whole, with the
+// place beside it, since the definitions of the flat form read by place.
 #![tactic(auto)]
 
-ghost use Rattle.std.specs.Prelude.{◌≡◌, ◌+◌, ◌≤◌, length};
+ghost use Rattle.std.specs.Prelude.{◌≡◌, List, ℕ, ◌+◌, ◌*◌, ◌≤◌, length};
 ghost use Rattle.flat.specs.Blocks.{each_in};
 ghost use Rattle.flat.specs.Flat.{number_in, flag_in, offset_in, config_in, reserved_of, reservation_in, pending_of, write_in, server_in, state_of, client_in, body_of, message_in, facade_in};
 
 use arith::as_signed;
+use std::array;
 use types::{
-    Body, Client, Config, Facade, Message, OpenWrite, Pending, Reservation, Reserved, Server, State,
+    Body, Client, Config, Facade, Message, OpenWrite, Pending, Reservation, Server, State,
 };
 
-// One number: as it stands, as a flag, and as a signed one.
+// A type whose values stand in the flat form in so many numbers each.
+trait Flat {
+    ghost WIDTH: { ℕ };
 
-fn number_in(l: &[u32], at: usize) -> u32
-    requires { at + 1 ≤ length l.now }
-    ensures { result ≡ number_in l.now at }
-{
-    l[at]
+    const WIDTH: usize;
+
+    // what a list reads as from a place on
+    ghost value: { List ℕ → ℕ → Self };
+
+    fn read(l: &[u32], at: usize) -> Self
+        requires { at + WIDTH ≤ length l.now }
+        ensures { result ≡ value l.now at };
 }
 
-fn flag_in(l: &[u32], at: usize) -> bool
-    requires { at + 1 ≤ length l.now }
-    ensures { result ≡ flag_in l.now at }
+// An array: its elements one behind the other, in blocks of equal width.
+fn each_in<T: Flat, const N: usize>(l: &[u32], at: usize) -> [T; N]
+    requires { at + T.WIDTH * N ≤ length l.now }
+    ensures { result ≡ each_in T.value T.WIDTH N l.now at }
 {
-    l[at] == 1
+    array::from_fn(
+        |i|
+            requires { at + T.WIDTH * i + T.WIDTH ≤ length l.now }
+        { T::read(l, at + T::WIDTH * i) },
+    )
 }
 
-fn offset_in(l: &[u32], at: usize) -> i32
-    requires { at + 1 ≤ length l.now }
-    ensures { result ≡ offset_in l.now at }
-{
-    as_signed(l[at])
+impl Flat for bool {
+    ghost WIDTH = { 1 };
+
+    const WIDTH: usize = 1;
+
+    ghost value = { flag_in };
+
+    fn read(l: &[u32], at: usize) -> bool {
+        l[at] == 1
+    }
+}
+
+impl Flat for u32 {
+    ghost WIDTH = { 1 };
+
+    const WIDTH: usize = 1;
+
+    ghost value = { number_in };
+
+    fn read(l: &[u32], at: usize) -> u32 {
+        l[at]
+    }
+}
+
+impl Flat for i32 {
+    ghost WIDTH = { 1 };
+
+    const WIDTH: usize = 1;
+
+    ghost value = { offset_in };
+
+    fn read(l: &[u32], at: usize) -> i32 {
+        as_signed(l[at])
+    }
 }
 
 pub fn config_in(l: &[u32], at: usize) -> Config
@@ -48,7 +89,8 @@ pub fn config_in(l: &[u32], at: usize) -> Config
     }
 }
 
-// A case that there is not reads as the first one.
+// A number stands for a kind, as the flat form comes from outside. A case that there is not reads as the first one.
+#[tactic(auto, unfolding(crate::specs::Flat::state_of))]
 fn state_of(kind: u32, a: u32, b: u32, c: u32) -> State
     ensures { result ≡ state_of kind a b c }
 {
@@ -69,6 +111,20 @@ pub fn client_in(l: &[u32], at: usize) -> Client
     Client { state }
 }
 
+impl Flat for Client {
+    ghost WIDTH = { 4 };
+
+    const WIDTH: usize = 4;
+
+    ghost value = { client_in };
+
+    fn read(l: &[u32], at: usize) -> Client {
+        client_in(l, at)
+    }
+}
+
+// Numbers for kinds as in `state_of`.
+#[tactic(auto, unfolding(crate::specs::Flat::body_of))]
 fn body_of(kind: u32, a: u32, b: u32, c: u32) -> Body
     ensures { result ≡ body_of kind a b c }
 {
@@ -97,234 +153,125 @@ pub fn message_in(l: &[u32], at: usize) -> Message
     }
 }
 
-// None, or an interaction and a number: the same in a reservation and in an open write.
-fn reserved_of(kind: u32, a: u32, b: u32) -> Reserved
-    ensures { result ≡ reserved_of kind a b }
-{
-    if kind == 1 {
-        Reserved::Taken(a, b)
-    } else {
-        Reserved::Free
+impl Flat for Message {
+    ghost WIDTH = { 7 };
+
+    const WIDTH: usize = 7;
+
+    ghost value = { message_in };
+
+    fn read(l: &[u32], at: usize) -> Message {
+        message_in(l, at)
     }
 }
 
-fn reservation_in(l: &[u32], at: usize) -> Reservation
+// None, or an interaction and a number: the same in a reservation and in an open write.
+#[tactic(auto, unfolding(crate::specs::Flat::reserved_of))]
+fn reservation_in(l: &[u32], at: usize) -> Option<Reservation>
     requires { at + 3 ≤ length l.now }
     ensures { result ≡ reservation_in l.now at }
 {
-    let state = reserved_of(l[at], l[at + 1], l[at + 2]);
-    Reservation { state }
+    if l[at] != 1 {
+        return None;
+    }
+    Some(Reservation {
+        interaction: l[at + 1],
+        reading: l[at + 2],
+    })
 }
 
-fn pending_of(kind: u32, a: u32, b: u32) -> Pending
-    ensures { result ≡ pending_of kind a b }
-{
-    if kind == 1 {
-        Pending::Open(a, b)
-    } else {
-        Pending::Closed
+impl Flat for Option<Reservation> {
+    ghost WIDTH = { 3 };
+
+    const WIDTH: usize = 3;
+
+    ghost value = { reservation_in };
+
+    fn read(l: &[u32], at: usize) -> Option<Reservation> {
+        reservation_in(l, at)
     }
 }
 
-// Arrays: elements one behind the other, in blocks of equal width.
-
-// For each server a flag.
-fn four_flags_in(l: &[u32], at: usize) -> [bool; 4]
-    requires { at + 4 ≤ length l.now }
-    ensures { result ≡ each_in flag_in 1 4 l.now at }
+#[tactic(auto, unfolding(crate::specs::Flat::pending_of))]
+fn pending_in(l: &[u32], at: usize) -> Option<Pending>
+    requires { at + 3 ≤ length l.now }
+    ensures { result ≡ pending_of (number_in l.now at) (number_in l.now (at + 1)) (number_in l.now (at + 2)) }
 {
-    let mut xs = [false; 4];
-    let mut i = 0;
-    while i < 4 {
-        xs[i] = flag_in(l, at + i);
-        i += 1;
+    if l[at] != 1 {
+        return None;
     }
-    xs
+    Some(Pending {
+        interaction: l[at + 1],
+        end: l[at + 2],
+    })
 }
 
-// For each address a flag.
-fn flags_in(l: &[u32], at: usize) -> [bool; 32]
-    requires { at + 32 ≤ length l.now }
-    ensures { result ≡ each_in flag_in 1 32 l.now at }
-{
-    let mut xs = [false; 32];
-    let mut i = 0;
-    while i < 32 {
-        xs[i] = flag_in(l, at + i);
-        i += 1;
-    }
-    xs
-}
-
-// For each address a number.
-fn numbers_in(l: &[u32], at: usize) -> [u32; 32]
-    requires { at + 32 ≤ length l.now }
-    ensures { result ≡ each_in number_in 1 32 l.now at }
-{
-    let mut xs = [0; 32];
-    let mut i = 0;
-    while i < 32 {
-        xs[i] = number_in(l, at + i);
-        i += 1;
-    }
-    xs
-}
-
-// For each pair of servers a notice time.
-fn notices_in(l: &[u32], at: usize) -> [u32; 16]
-    requires { at + 16 ≤ length l.now }
-    ensures { result ≡ each_in number_in 1 16 l.now at }
-{
-    let mut xs = [0; 16];
-    let mut i = 0;
-    while i < 16 {
-        xs[i] = number_in(l, at + i);
-        i += 1;
-    }
-    xs
-}
-
-// For each party an offset.
-fn offsets_in(l: &[u32], at: usize) -> [i32; 36]
-    requires { at + 36 ≤ length l.now }
-    ensures { result ≡ each_in offset_in 1 36 l.now at }
-{
-    let mut xs = [0; 36];
-    let mut i = 0;
-    while i < 36 {
-        xs[i] = offset_in(l, at + i);
-        i += 1;
-    }
-    xs
-}
-
-fn reservations_in(l: &[u32], at: usize) -> [Reservation; 32]
-    requires { at + 96 ≤ length l.now }
-    ensures { result ≡ each_in reservation_in 3 32 l.now at }
-{
-    // any value serves where the array begins, as each place is filled
-    let first = reservation_in(l, at);
-    let mut xs = [first; 32];
-    let mut i = 0;
-    while i < 32 {
-        let x = reservation_in(l, at + 3 * i);
-        xs[i] = x;
-        i += 1;
-    }
-    xs
-}
-
+#[tactic(auto, unfolding(crate::specs::Flat::write_in))]
 fn write_in(l: &[u32], at: usize) -> OpenWrite
     requires { at + 7 ≤ length l.now }
     ensures { result ≡ write_in l.now at }
 {
-    let pending = pending_of(l[at], l[at + 1], l[at + 2]);
-    let acked = four_flags_in(l, at + 3);
+    let pending = pending_in(l, at);
+    let acked = each_in(l, at + 3);
     OpenWrite { pending, acked }
 }
 
-fn writes_in(l: &[u32], at: usize) -> [OpenWrite; 32]
-    requires { at + 224 ≤ length l.now }
-    ensures { result ≡ each_in write_in 7 32 l.now at }
-{
-    let first = write_in(l, at);
-    let mut xs = [first; 32];
-    let mut i = 0;
-    while i < 32 {
-        let x = write_in(l, at + 7 * i);
-        xs[i] = x;
-        i += 1;
+impl Flat for OpenWrite {
+    ghost WIDTH = { 7 };
+
+    const WIDTH: usize = 7;
+
+    ghost value = { write_in };
+
+    fn read(l: &[u32], at: usize) -> OpenWrite {
+        write_in(l, at)
     }
-    xs
 }
 
-fn clients_in(l: &[u32], at: usize) -> [Client; 32]
-    requires { at + 128 ≤ length l.now }
-    ensures { result ≡ each_in client_in 4 32 l.now at }
-{
-    let first = client_in(l, at);
-    let mut xs = [first; 32];
-    let mut i = 0;
-    while i < 32 {
-        let x = client_in(l, at + 4 * i);
-        xs[i] = x;
-        i += 1;
-    }
-    xs
-}
-
-fn messages_in(l: &[u32], at: usize) -> [Message; 128]
-    requires { at + 896 ≤ length l.now }
-    ensures { result ≡ each_in message_in 7 128 l.now at }
-{
-    let first = message_in(l, at);
-    let mut xs = [first; 128];
-    let mut i = 0;
-    while i < 128 {
-        let x = message_in(l, at + 7 * i);
-        xs[i] = x;
-        i += 1;
-    }
-    xs
-}
-
+#[tactic(auto, unfolding(crate::specs::Flat::server_in))]
 pub fn server_in(l: &[u32], at: usize) -> Server
     requires { at + 423 ≤ length l.now }
     ensures { result ≡ server_in l.now at }
 {
-    let believed = four_flags_in(l, at + 3);
-    let leads = flags_in(l, at + 7);
-    let lent = numbers_in(l, at + 39);
-    let potlease = numbers_in(l, at + 71);
-    let reserved = reservations_in(l, at + 103);
-    let writes = writes_in(l, at + 199);
     Server {
-        alive: flag_in(l, at),
+        alive: bool::read(l, at),
         changed: l[at + 1],
         returned: l[at + 2],
-        believed,
-        leads,
-        reserved,
-        lent,
-        potlease,
-        writes,
+        believed: each_in(l, at + 3),
+        leads: each_in(l, at + 7),
+        lent: each_in(l, at + 39),
+        potlease: each_in(l, at + 71),
+        reserved: each_in(l, at + 103),
+        writes: each_in(l, at + 199),
     }
 }
 
-fn servers_in(l: &[u32], at: usize) -> [Server; 4]
-    requires { at + 1692 ≤ length l.now }
-    ensures { result ≡ each_in server_in 423 4 l.now at }
-{
-    let first = server_in(l, at);
-    let mut xs = [first; 4];
-    let mut i = 0;
-    while i < 4 {
-        let x = server_in(l, at + 423 * i);
-        xs[i] = x;
-        i += 1;
+impl Flat for Server {
+    ghost WIDTH = { 423 };
+
+    const WIDTH: usize = 423;
+
+    ghost value = { server_in };
+
+    fn read(l: &[u32], at: usize) -> Server {
+        server_in(l, at)
     }
-    xs
 }
 
+#[tactic(auto, unfolding(crate::specs::Flat::facade_in))]
 pub fn facade_in(l: &[u32]) -> Facade
     requires { length l.now ≡ 2778 }
     ensures { result ≡ facade_in l.now }
 {
-    let config = config_in(l, 0);
-    let offsets = offsets_in(l, 10);
-    let notices = notices_in(l, 46);
-    let servers = servers_in(l, 62);
-    let clients = clients_in(l, 1754);
-    let messages = messages_in(l, 1882);
     Facade {
-        config,
+        config: config_in(l, 0),
         time: l[7],
         next: l[8],
-        offsets,
-        servers,
-        notices,
-        clients,
-        messages,
         waiting: l[9],
+        offsets: each_in(l, 10),
+        notices: each_in(l, 46),
+        servers: each_in(l, 62),
+        clients: each_in(l, 1754),
+        messages: each_in(l, 1882),
     }
 }

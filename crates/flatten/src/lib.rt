@@ -2,292 +2,322 @@
 // What is put is of the shape that its type says, so it reads back.
 #![tactic(auto)]
 
-ghost use Rattle.std.specs.Prelude.{◌≡◌, ◌+◌, ◌≤◌, length};
+ghost use Rattle.std.specs.Prelude.{◌≡◌, List, ℕ, ◌+◌, ◌*◌, ◌≤◌, length};
 ghost use Rattle.std.specs.Int.{w32};
 ghost use Rattle.std.proofs.Common.{SFits};
 ghost use Rattle.wire.specs.Numbers.{over};
 ghost use Rattle.flat.specs.Blocks.{each, is_same};
-ghost use Rattle.flat.specs.Flat.{plain, flag_number, flag_numbers, offset_numbers, config_numbers, reserved_numbers, reservation_numbers, pending_numbers, write_numbers, leading_numbers, ends_numbers, server_numbers, state_numbers, client_numbers, body_numbers, message_numbers, outbox_numbers, times_numbers, facade_numbers, codes_facade, codes_server, codes_client, codes_message};
+ghost use Rattle.flat.specs.Flat.{plain, flag_numbers, offset_numbers, config_numbers, reservation_numbers, pending_numbers, write_numbers, server_numbers, state_numbers, client_numbers, body_numbers, message_numbers, outbox_numbers, facade_numbers, codes_facade, codes_server, codes_client, codes_message};
 ghost use Rattle.flat.specs.Shape.{Has, WriteShaped, ServerShaped, OutboxShaped, FacadeShaped};
-ghost use Rattle.flatten.specs.Numbers.{three_numbers, four_numbers};
+ghost use Rattle.flat.proofs.Blocks.{Any};
+ghost use Rattle.flat.proofs.Back.{plain_back, flag_back, offset_back, config_back, reservation_back, write_back, server_back, client_back, message_back, outbox_back, facade_width};
 
-use arith::both;
 use types::{
-    Body, Client, Config, Facade, Message, OpenWrite, Outbox, Pending, Reservation, Reserved,
-    Server, State,
+    Body, Client, Config, Facade, Message, OpenWrite, Outbox, Pending, Reservation, Server, State,
 };
 use wire::complement;
 
-// Numbers that stand side by side.
-#[derive(Clone, Copy)]
-struct Three(u32, u32, u32);
+// A value that has a flat form: the values of a type have equally many numbers.
+trait Flat {
+    ghost numbers: { Self → List ℕ };
 
-#[derive(Clone, Copy)]
-struct Four(u32, u32, u32, u32);
+    // the shape that the type gives a value: how long its arrays are
+    ghost Shaped: { Self → Type 0 };
 
-fn put_number(out: &mut [u32], at: usize, n: u32)
-    requires { at + 1 ≤ length out.old }
-    ensures { out.new ≡ over out.old at (plain n) }
-{
-    out[at] = n;
+    ghost WIDTH: { ℕ };
+
+    const WIDTH: usize;
+
+    fn put(&self, out: &mut [u32], at: usize)
+        requires { at + WIDTH ≤ length out.old }
+        ensures shaped { Shaped self.now }
+        ensures out_after { out.new ≡ over out.old at (numbers self.now) };
+
+    ghost wide: { (x : Self) → Shaped x → length (numbers x) ≡ WIDTH };
 }
 
-fn put_three(out: &mut [u32], at: usize, x: Three)
-    requires { at + 3 ≤ length out.old }
-    ensures { out.new ≡ over out.old at (three_numbers x) }
+// One element behind the other.
+fn put_each<T: Flat, const N: usize>(out: &mut [u32], at: usize, xs: &[T; N])
+    requires { at + T.WIDTH * N ≤ length out.old }
+    ensures shaped { Has N T.Shaped xs.now }
+    ensures wide { length (each T.numbers xs.now) ≡ T.WIDTH * N }
+    ensures out_after { out.new ≡ over out.old at (each T.numbers xs.now) }
 {
-    out[at] = x.0;
-    out[at + 1] = x.1;
-    out[at + 2] = x.2;
+    for (i, x) in xs.iter().enumerate() {
+        x.put(out, at + T::WIDTH * i);
+    }
 }
 
-fn put_four(out: &mut [u32], at: usize, x: Four)
-    requires { at + 4 ≤ length out.old }
-    ensures { out.new ≡ over out.old at (four_numbers x) }
-{
-    out[at] = x.0;
-    out[at + 1] = x.1;
-    out[at + 2] = x.2;
-    out[at + 3] = x.3;
+#[tactic(auto, using(wire::proofs::Over::over_one))]
+impl Flat for u32 {
+    ghost numbers = { plain };
+
+    ghost Shaped = { Any };
+
+    ghost WIDTH = { 1 };
+
+    const WIDTH: usize = 1;
+
+    fn put(&self, out: &mut [u32], at: usize) {
+        out[at] = *self;
+    }
+
+    ghost wide = { plain_back.width };
 }
 
-fn flag_number(b: bool) -> u32
-    ensures { result ≡ flag_number b }
+#[tactic(auto, using(wire::proofs::Over::over_one))]
+impl Flat for bool {
+    ghost numbers = { flag_numbers };
+
+    ghost Shaped = { Any };
+
+    ghost WIDTH = { 1 };
+
+    const WIDTH: usize = 1;
+
+    fn put(&self, out: &mut [u32], at: usize) {
+        out[at] = u32::from(*self);
+    }
+
+    ghost wide = { flag_back.width };
+}
+
+#[tactic(auto, using(wire::proofs::Over::over_one))]
+impl Flat for i32 {
+    ghost numbers = { offset_numbers };
+
+    ghost Shaped = { SFits w32 };
+
+    ghost WIDTH = { 1 };
+
+    const WIDTH: usize = 1;
+
+    fn put(&self, out: &mut [u32], at: usize) {
+        out[at] = complement(*self);
+    }
+
+    ghost wide = { offset_back.width };
+}
+
+// Numbers that stand side by side. With copy_from_slice, which takes each few numbers through memory, a facade takes 2.5 times
+// as long.
+#[tactic(auto, using(crate::proofs::Laws::each_plain))]
+fn put_numbers<const N: usize>(out: &mut [u32], at: usize, xs: &[u32; N])
+    requires { at + N ≤ length out.old }
+    ensures { out.new ≡ over out.old at xs.now }
 {
-    if b { 1 } else { 0 }
+    put_each(out, at, xs);
+}
+
+#[tactic(auto, unfolding(flat::specs::Flat::config_numbers))]
+impl Flat for Config {
+    ghost numbers = { config_numbers };
+
+    ghost Shaped = { Any };
+
+    ghost WIDTH = { 7 };
+
+    const WIDTH: usize = 7;
+
+    fn put(&self, out: &mut [u32], at: usize) {
+        let numbers = [
+            self.servers,
+            self.clients,
+            self.addresses,
+            self.skew,
+            self.detection,
+            self.mclt,
+            self.retention,
+        ];
+        put_numbers(out, at, &numbers);
+    }
+
+    ghost wide = { config_back.width };
 }
 
 // The number of the case, its fields, and 0 in each place that the case does not have.
-fn state_numbers(x: State) -> Four
-    ensures { four_numbers result ≡ state_numbers x }
+
+fn reservation_numbers(x: Option<Reservation>) -> [u32; 3]
+    ensures { result ≡ reservation_numbers x }
 {
     match x {
-        State::Idle => Four(0, 0, 0, 0),
-        State::Asking(q) => Four(1, q, 0, 0),
-        State::Offered(q, a) => Four(2, q, a, 0),
-        State::Waiting(q, a) => Four(3, q, a, 0),
-        State::Holding(a, e, q) => Four(4, a, e, q),
+        None => [0, 0, 0],
+        Some(x) => [1, x.interaction, x.reading],
     }
+}
+
+fn pending_numbers(x: Option<Pending>) -> [u32; 3]
+    ensures { result ≡ pending_numbers x }
+{
+    match x {
+        None => [0, 0, 0],
+        Some(x) => [1, x.interaction, x.end],
+    }
+}
+
+fn state_numbers(x: State) -> [u32; 4]
+    ensures { result ≡ state_numbers x }
+{
+    match x {
+        State::Idle => [0, 0, 0, 0],
+        State::Asking(q) => [1, q, 0, 0],
+        State::Offered(q, a) => [2, q, a, 0],
+        State::Waiting(q, a) => [3, q, a, 0],
+        State::Holding(a, e, q) => [4, a, e, q],
+    }
+}
+
+fn body_numbers(x: Body) -> [u32; 4]
+    ensures { result ≡ body_numbers x }
+{
+    match x {
+        Body::Empty => [0, 0, 0, 0],
+        Body::Discover => [1, 0, 0, 0],
+        Body::Offer(a) => [2, a, 0, 0],
+        Body::Request(a, t) => [3, a, t, 0],
+        Body::Renew(a, e, t) => [4, a, e, t],
+        Body::Write(a, v) => [5, a, v, 0],
+        Body::WriteAck(a, v) => [6, a, v, 0],
+        Body::Ack(a, e) => [7, a, e, 0],
+    }
+}
+
+impl Flat for Option<Reservation> {
+    ghost numbers = { reservation_numbers };
+
+    ghost Shaped = { Any };
+
+    ghost WIDTH = { 3 };
+
+    const WIDTH: usize = 3;
+
+    fn put(&self, out: &mut [u32], at: usize) {
+        put_numbers(out, at, &reservation_numbers(*self));
+    }
+
+    ghost wide = { reservation_back.width };
+}
+
+impl Flat for OpenWrite {
+    ghost numbers = { write_numbers };
+
+    ghost Shaped = { WriteShaped };
+
+    ghost WIDTH = { 7 };
+
+    const WIDTH: usize = 7;
+
+    fn put(&self, out: &mut [u32], at: usize) {
+        put_numbers(out, at, &pending_numbers(self.pending));
+        put_each(out, at + 3, &self.acked);
+    }
+
+    ghost wide = { write_back.width };
+}
+
+impl Flat for Client {
+    ghost numbers = { client_numbers };
+
+    ghost Shaped = { Any };
+
+    ghost WIDTH = { 4 };
+
+    const WIDTH: usize = 4;
+
+    fn put(&self, out: &mut [u32], at: usize) {
+        put_numbers(out, at, &state_numbers(self.state));
+    }
+
+    ghost wide = { client_back.width };
+}
+
+impl Flat for Message {
+    ghost numbers = { message_numbers };
+
+    ghost Shaped = { Any };
+
+    ghost WIDTH = { 7 };
+
+    const WIDTH: usize = 7;
+
+    fn put(&self, out: &mut [u32], at: usize) {
+        put_numbers(out, at, &[self.sender, self.receiver, self.interaction]);
+        put_numbers(out, at + 3, &body_numbers(self.body));
+    }
+
+    ghost wide = { message_back.width };
+}
+
+impl Flat for Server {
+    ghost numbers = { server_numbers };
+
+    ghost Shaped = { ServerShaped };
+
+    ghost WIDTH = { 423 };
+
+    const WIDTH: usize = 423;
+
+    fn put(&self, out: &mut [u32], at: usize) {
+        put_numbers(
+            out,
+            at,
+            &[u32::from(self.alive), self.changed, self.returned],
+        );
+        put_each(out, at + 3, &self.believed);
+        put_each(out, at + 7, &self.leads);
+        put_each(out, at + 39, &self.lent);
+        put_each(out, at + 71, &self.potlease);
+        put_each(out, at + 103, &self.reserved);
+        put_each(out, at + 199, &self.writes);
+    }
+
+    ghost wide = { server_back.width };
+}
+
+impl Flat for Outbox {
+    ghost numbers = { outbox_numbers };
+
+    ghost Shaped = { OutboxShaped };
+
+    ghost WIDTH = { 29 };
+
+    const WIDTH: usize = 29;
+
+    fn put(&self, out: &mut [u32], at: usize) {
+        self.count.put(out, at);
+        put_each(out, at + 1, &self.messages);
+    }
+
+    ghost wide = { outbox_back.width };
+}
+
+impl Flat for Facade {
+    ghost numbers = { facade_numbers };
+
+    ghost Shaped = { FacadeShaped };
+
+    ghost WIDTH = { 2778 };
+
+    const WIDTH: usize = 2778;
+
+    fn put(&self, out: &mut [u32], at: usize) {
+        self.config.put(out, at);
+        put_numbers(out, at + 7, &[self.time, self.next, self.waiting]);
+        put_each(out, at + 10, &self.offsets);
+        put_each(out, at + 46, &self.notices);
+        put_each(out, at + 62, &self.servers);
+        put_each(out, at + 1754, &self.clients);
+        put_each(out, at + 1882, &self.messages);
+    }
+
+    ghost wide = { facade_width };
 }
 
 pub fn put_client(out: &mut [u32], at: usize, x: Client)
     requires { at + 4 ≤ length out.old }
     ensures { out.new ≡ over out.old at (client_numbers x) }
 {
-    let state = x.state;
-    put_four(out, at, state_numbers(state));
-}
-
-fn body_numbers(x: Body) -> Four
-    ensures { four_numbers result ≡ body_numbers x }
-{
-    match x {
-        Body::Empty => Four(0, 0, 0, 0),
-        Body::Discover => Four(1, 0, 0, 0),
-        Body::Offer(a) => Four(2, a, 0, 0),
-        Body::Request(a, t) => Four(3, a, t, 0),
-        Body::Renew(a, e, t) => Four(4, a, e, t),
-        Body::Write(a, v) => Four(5, a, v, 0),
-        Body::WriteAck(a, v) => Four(6, a, v, 0),
-        Body::Ack(a, e) => Four(7, a, e, 0),
-    }
-}
-
-fn put_message(out: &mut [u32], at: usize, m: Message)
-    requires { at + 7 ≤ length out.old }
-    ensures { out.new ≡ over out.old at (message_numbers m) }
-{
-    let body = m.body;
-    put_three(out, at, Three(m.sender, m.receiver, m.interaction));
-    put_four(out, at + 3, body_numbers(body));
-}
-
-fn reserved_numbers(x: Reserved) -> Three
-    ensures { three_numbers result ≡ reserved_numbers x }
-{
-    match x {
-        Reserved::Free => Three(0, 0, 0),
-        Reserved::Taken(q, r) => Three(1, q, r),
-    }
-}
-
-fn put_reservation(out: &mut [u32], at: usize, x: Reservation)
-    requires { at + 3 ≤ length out.old }
-    ensures { out.new ≡ over out.old at (reservation_numbers x) }
-{
-    let state = x.state;
-    put_three(out, at, reserved_numbers(state));
-}
-
-fn pending_numbers(x: Pending) -> Three
-    ensures { three_numbers result ≡ pending_numbers x }
-{
-    match x {
-        Pending::Closed => Three(0, 0, 0),
-        Pending::Open(q, v) => Three(1, q, v),
-    }
-}
-
-fn put_config(out: &mut [u32], at: usize, c: Config)
-    requires { at + 7 ≤ length out.old }
-    ensures { out.new ≡ over out.old at (config_numbers c) }
-{
-    put_four(out, at, Four(c.servers, c.clients, c.addresses, c.skew));
-    put_three(out, at + 4, Three(c.detection, c.mclt, c.retention));
-}
-
-fn put_flag(out: &mut [u32], at: usize, b: bool)
-    requires { at + 1 ≤ length out.old }
-    ensures { out.new ≡ over out.old at (flag_numbers b) }
-{
-    put_number(out, at, flag_number(b));
-}
-
-fn put_offset(out: &mut [u32], at: usize, z: i32)
-    requires { at + 1 ≤ length out.old }
-    ensures { out.new ≡ over out.old at (offset_numbers z) }
-{
-    put_number(out, at, complement(z));
-}
-
-// Arrays: one element behind the other.
-
-fn put_flags(out: &mut [u32], at: usize, xs: &[bool])
-    requires { at + length xs.now ≤ length out.old }
-    ensures { out.new ≡ over out.old at (each flag_numbers xs.now) }
-{
-    let mut i = 0;
-    while i < xs.len() {
-        put_flag(out, at + i, xs[i]);
-        i += 1;
-    }
-}
-
-fn put_numbers(out: &mut [u32], at: usize, xs: &[u32])
-    requires { at + length xs.now ≤ length out.old }
-    ensures { out.new ≡ over out.old at (each plain xs.now) }
-{
-    let mut i = 0;
-    while i < xs.len() {
-        put_number(out, at + i, xs[i]);
-        i += 1;
-    }
-}
-
-fn put_offsets(out: &mut [u32], at: usize, xs: [i32; 36])
-    requires { at + 36 ≤ length out.old }
-    ensures has { Has 36 (SFits w32) xs }
-    ensures out_after { out.new ≡ over out.old at (each offset_numbers xs) }
-{
-    let mut i = 0;
-    while i < 36 {
-        put_offset(out, at + i, xs[i]);
-        i += 1;
-    }
-}
-
-fn put_reservations(out: &mut [u32], at: usize, xs: [Reservation; 32])
-    requires { at + 96 ≤ length out.old }
-    ensures xs_len { length xs ≡ 32 }
-    ensures out_after { out.new ≡ over out.old at (each reservation_numbers xs) }
-{
-    let mut i = 0;
-    while i < 32 {
-        let x = xs[i];
-        put_reservation(out, at + 3 * i, x);
-        i += 1;
-    }
-}
-
-fn put_write(out: &mut [u32], at: usize, w: OpenWrite)
-    requires { at + 7 ≤ length out.old }
-    ensures write_shaped { WriteShaped w }
-    ensures out_after { out.new ≡ over out.old at (write_numbers w) }
-{
-    let pending = w.pending;
-    let acked = w.acked;
-    put_three(out, at, pending_numbers(pending));
-    put_flags(out, at + 3, &acked);
-}
-
-fn put_writes(out: &mut [u32], at: usize, xs: [OpenWrite; 32])
-    requires { at + 224 ≤ length out.old }
-    ensures has { Has 32 WriteShaped xs }
-    ensures out_after { out.new ≡ over out.old at (each write_numbers xs) }
-{
-    let mut i = 0;
-    while i < 32 {
-        let x = xs[i];
-        put_write(out, at + 7 * i, x);
-        i += 1;
-    }
-}
-
-fn put_clients(out: &mut [u32], at: usize, xs: [Client; 32])
-    requires { at + 128 ≤ length out.old }
-    ensures xs_len { length xs ≡ 32 }
-    ensures out_after { out.new ≡ over out.old at (each client_numbers xs) }
-{
-    let mut i = 0;
-    while i < 32 {
-        let x = xs[i];
-        put_client(out, at + 4 * i, x);
-        i += 1;
-    }
-}
-
-fn put_messages(out: &mut [u32], at: usize, xs: [Message; 128])
-    requires { at + 896 ≤ length out.old }
-    ensures xs_len { length xs ≡ 128 }
-    ensures out_after { out.new ≡ over out.old at (each message_numbers xs) }
-{
-    let mut i = 0;
-    while i < 128 {
-        let x = xs[i];
-        put_message(out, at + 7 * i, x);
-        i += 1;
-    }
-}
-
-// The four places of an outbox.
-fn put_sent(out: &mut [u32], at: usize, xs: [Message; 4])
-    requires { at + 28 ≤ length out.old }
-    ensures xs_len { length xs ≡ 4 }
-    ensures out_after { out.new ≡ over out.old at (each message_numbers xs) }
-{
-    let mut i = 0;
-    while i < 4 {
-        let x = xs[i];
-        put_message(out, at + 7 * i, x);
-        i += 1;
-    }
-}
-
-// A server up to the addresses that it leads.
-fn put_leading(out: &mut [u32], at: usize, s: Server)
-    requires { at + 39 ≤ length out.old }
-    ensures s_len { length (leading_numbers s) ≡ 39 }
-    ensures out_after { out.new ≡ over out.old at (leading_numbers s) }
-{
-    let believed = s.believed;
-    let leads = s.leads;
-    let alive = flag_number(s.alive);
-    put_three(out, at, Three(alive, s.changed, s.returned));
-    put_flags(out, at + 3, &believed);
-    put_flags(out, at + 7, &leads);
-}
-
-// A server up to the records.
-fn put_ends(out: &mut [u32], at: usize, s: Server)
-    requires { at + 103 ≤ length out.old }
-    ensures s_len { length (ends_numbers s) ≡ 103 }
-    ensures out_after { out.new ≡ over out.old at (ends_numbers s) }
-{
-    let lent = s.lent;
-    let records = s.potlease;
-    put_leading(out, at, s);
-    put_numbers(out, at + 39, &lent);
-    put_numbers(out, at + 71, &records);
+    x.put(out, at);
 }
 
 pub fn put_server(out: &mut [u32], at: usize, s: Server)
@@ -295,24 +325,7 @@ pub fn put_server(out: &mut [u32], at: usize, s: Server)
     ensures server_shaped { ServerShaped s }
     ensures out_after { out.new ≡ over out.old at (server_numbers s) }
 {
-    let reserved = s.reserved;
-    let writes = s.writes;
-    put_ends(out, at, s);
-    put_reservations(out, at + 103, reserved);
-    put_writes(out, at + 199, writes);
-}
-
-fn put_servers(out: &mut [u32], at: usize, xs: [Server; 4])
-    requires { at + 1692 ≤ length out.old }
-    ensures has { Has 4 ServerShaped xs }
-    ensures out_after { out.new ≡ over out.old at (each server_numbers xs) }
-{
-    let mut i = 0;
-    while i < 4 {
-        let x = xs[i];
-        put_server(out, at + 423 * i, x);
-        i += 1;
-    }
+    s.put(out, at);
 }
 
 pub fn put_outbox(out: &mut [u32], at: usize, o: Outbox)
@@ -320,25 +333,7 @@ pub fn put_outbox(out: &mut [u32], at: usize, o: Outbox)
     ensures outbox_shaped { OutboxShaped o }
     ensures out_after { out.new ≡ over out.old at (outbox_numbers o) }
 {
-    let messages = o.messages;
-    put_number(out, at, o.count);
-    put_sent(out, at + 1, messages);
-}
-
-// A facade up to the notice times.
-fn put_times(out: &mut [u32], f: Facade)
-    requires { 62 ≤ length out.old }
-    ensures has { Has 36 (SFits w32) f.offsets }
-    ensures notices_len { length f.notices ≡ 16 }
-    ensures out_after { out.new ≡ over out.old 0 (times_numbers f) }
-{
-    let config = f.config;
-    let offsets = f.offsets;
-    let notices = f.notices;
-    put_config(out, 0, config);
-    put_three(out, 7, Three(f.time, f.next, f.waiting));
-    put_offsets(out, 10, offsets);
-    put_numbers(out, 46, &notices);
+    o.put(out, at);
 }
 
 pub fn put_facade(out: &mut [u32], f: Facade)
@@ -346,77 +341,46 @@ pub fn put_facade(out: &mut [u32], f: Facade)
     ensures facade_shaped { FacadeShaped f }
     ensures out_after { out.new ≡ over out.old 0 (facade_numbers f) }
 {
-    let servers = f.servers;
-    let clients = f.clients;
-    let messages = f.messages;
-    put_times(out, f);
-    put_servers(out, 62, servers);
-    put_clients(out, 1754, clients);
-    put_messages(out, 1882, messages);
+    f.put(out, 0);
 }
 
-// Whether two lists are the same numbers.
-fn is_same(v: &[u32], l: &[u32]) -> bool
-    ensures { result ≡ is_same v.now l.now }
+// Whether a list is the flat form of a value. No type has more numbers than a facade.
+fn is_form<T: Flat, const N: usize>(x: &T, l: &[u32]) -> bool
+    requires width { T.WIDTH ≡ N }
+    requires room { N ≤ 2778 }
+    ensures { result ≡ is_same (T.numbers x.now) l.now }
 {
-    if v.len() != l.len() {
-        return false;
-    }
-    let mut ok = true;
-    let mut i = 0;
-    while i < l.len() {
-        ok = both(v[i] == l[i], ok);
-        i += 1;
-    }
-    ok
+    let mut own = [0; N];
+    x.put(&mut own, 0);
+    own.as_slice() == l
 }
 
 // Whether a list is the flat form of a facade, a server, a client, a message: it is read, and what was read is put again.
 
+#[tactic(auto, using(crate::proofs::Laws::codes_not, crate::proofs::Laws::codes_form))]
 pub fn codes_facade(l: &[u32]) -> bool
     ensures { result ≡ codes_facade l.now }
 {
-    if l.len() != 2778 {
-        return false;
-    }
-    let f = flat::facade_in(l);
-    let mut back = [0; 2778];
-    put_facade(&mut back, f);
-    is_same(&back, l)
+    l.len() == 2778 && is_form::<_, 2778>(&flat::facade_in(l), l)
 }
 
+#[tactic(auto, using(crate::proofs::Laws::codes_not, crate::proofs::Laws::codes_form))]
 pub fn codes_server(l: &[u32]) -> bool
     ensures { result ≡ codes_server l.now }
 {
-    if l.len() != 423 {
-        return false;
-    }
-    let s = flat::server_in(l, 0);
-    let mut back = [0; 423];
-    put_server(&mut back, 0, s);
-    is_same(&back, l)
+    l.len() == 423 && is_form::<_, 423>(&flat::server_in(l, 0), l)
 }
 
+#[tactic(auto, using(crate::proofs::Laws::codes_not, crate::proofs::Laws::codes_form))]
 pub fn codes_client(l: &[u32]) -> bool
     ensures { result ≡ codes_client l.now }
 {
-    if l.len() != 4 {
-        return false;
-    }
-    let x = flat::client_in(l, 0);
-    let mut back = [0; 4];
-    put_client(&mut back, 0, x);
-    is_same(&back, l)
+    l.len() == 4 && is_form::<_, 4>(&flat::client_in(l, 0), l)
 }
 
+#[tactic(auto, using(crate::proofs::Laws::codes_not, crate::proofs::Laws::codes_form))]
 pub fn codes_message(l: &[u32]) -> bool
     ensures { result ≡ codes_message l.now }
 {
-    if l.len() != 7 {
-        return false;
-    }
-    let m = flat::message_in(l, 0);
-    let mut back = [0; 7];
-    put_message(&mut back, 0, m);
-    is_same(&back, l)
+    l.len() == 7 && is_form::<_, 7>(&flat::message_in(l, 0), l)
 }

@@ -1,11 +1,31 @@
-// Reading from a stream until a buffer is full: what the programs here do with their input.
+// What the programs here do with their input: a stream read until a buffer is full, and numbers read from one; and an input that
+// two of them have.
 #![tactic(auto)]
 
-ghost use Rattle.std.specs.Prelude.{◌≤◌, ◌<◌, length, take, IfOk};
+ghost use Rattle.std.specs.Prelude.{◌≡◌, ◌≤◌, ◌<◌, ◌++◌, length, take, drop, Some, IfOk, OnOk, IfSome};
+ghost use Rattle.std.specs.Int.{w32, to_be_bytes, from_be_bytes};
 ghost use Rattle.std.specs.Io.KnownBytes.{Consumes, IsAtEnd};
 
 use std::io;
 use std::io::Read;
+
+// The steps of document 01's example, four numbers each: kind and fields.
+pub const EXAMPLE: [[u32; 4]; 14] = [
+    [1, 5, 0, 0],
+    [4, 0, 1, 1],
+    [4, 1, 0, 1],
+    [1, 5, 0, 0],
+    [4, 0, 1, 1],
+    [4, 1, 0, 1],
+    [1, 5, 0, 0],
+    [5, 0, 0, 0],
+    [8, 0, 0, 0],
+    [8, 1, 0, 0],
+    [6, 0, 100, 0],
+    [8, 1, 0, 0],
+    [8, 2, 0, 0],
+    [5, 0, 0, 0],
+];
 
 // Reads until the buffer is full or the input ends. Answers how many bytes were read. What the reader had left is known of readers
 // over memory; of a file or standard input no contract knows it.
@@ -23,4 +43,16 @@ pub fn read_full<R: Read>(from: &mut R, buf: &mut [u8]) -> io::Result<usize>
         done += n;
     }
     Ok(done)
+}
+
+// Reads a number of four bytes, big-endian. The bytes that an input lacks, where it ends before, are those of `last`.
+pub fn next_number<R: Read>(from: &mut R, last: u32) -> io::Result<u32>
+    ensures number { IfOk result (λ n. IfSome (R.remaining from.old) (λ xs. n ≡ from_be_bytes w32 (take 4 xs ++ drop (length xs) (to_be_bytes w32 last)))) }
+    ensures rest { OnOk result (IfSome (R.remaining from.old) (λ xs. R.remaining from.new ≡ Some (drop 4 xs))) }
+{
+    let mut read = [0u8; 4];
+    let n = read_full(from, &mut read)?;
+    let mut four = last.to_be_bytes();
+    four[..n].copy_from_slice(&read[..n]);
+    Ok(u32::from_be_bytes(four))
 }

@@ -3,18 +3,12 @@
 // edges, and the buffer after it.
 #![tactic(auto)]
 
-use input::read_full;
+use input::{EXAMPLE, read_full};
 use script::FIRST_RECORD;
 use std::fs::File;
 use std::io::Write;
 use std::{env, io};
 use types::Config;
-
-// The steps of the example, four numbers each: kind and fields.
-const EXAMPLE: [u32; 56] = [
-    1, 5, 0, 0, 4, 0, 1, 1, 4, 1, 0, 1, 1, 5, 0, 0, 4, 0, 1, 1, 4, 1, 0, 1, 1, 5, 0, 0, 5, 0, 0, 0,
-    8, 0, 0, 0, 8, 1, 0, 0, 6, 0, 100, 0, 8, 1, 0, 0, 8, 2, 0, 0, 5, 0, 0, 0,
-];
 
 // A pass of no time, then a step of no known kind: the first is refused.
 const TWO_WRONG: [u32; 8] = [1, 0, 0, 0, 99, 0, 0, 0];
@@ -36,8 +30,10 @@ fn print_bytes(to: &mut impl Write, b: &[u8]) -> io::Result<()> {
 }
 
 // The steps of a script, a line for each: kind and fields.
+#[tactic(auto, using(script::proofs::Walk::leaves_less))]
 fn print_steps(to: &mut impl Write, s: &[u8]) -> io::Result<()> {
     let mut p = FIRST_RECORD;
+    // where the next record begins is known when this one is read, so this is no `for`
     while p < s.len() {
         let r = script::record_at(s, p);
         let x = r.step;
@@ -61,7 +57,7 @@ fn try_writer(to: &mut impl Write, c: Config, rows: &[u32], out: &mut [u8]) -> i
 // The example of document 01.
 fn show_example(to: &mut impl Write, c: Config) -> io::Result<()> {
     let mut out = [0u8; 189];
-    try_writer(to, c, &EXAMPLE, &mut out)?;
+    try_writer(to, c, EXAMPLE.as_flattened(), &mut out)?;
     let verdict = script::verdict(&out);
     writeln!(to, " {verdict}")?;
     print_steps(to, &out)
@@ -77,7 +73,7 @@ fn show_room(to: &mut impl Write, c: Config) -> io::Result<()> {
     let mut short = [170u8; 28];
     try_writer(to, c, &none, &mut short)?;
     let mut shorter = [170u8; 188];
-    try_writer(to, c, &EXAMPLE, &mut shorter)?;
+    try_writer(to, c, EXAMPLE.as_flattened(), &mut shorter)?;
     Ok(())
 }
 
@@ -87,8 +83,7 @@ fn show_order(to: &mut impl Write, c: Config) -> io::Result<()> {
     try_writer(to, c, &TWO_WRONG, &mut out)?;
     let unknown = [11, 0, 0, 0];
     try_writer(to, c, &unknown, &mut out)?;
-    let mut bad = c;
-    bad.servers = 5;
+    let bad = Config { servers: 5, ..c };
     try_writer(to, bad, &TWO_WRONG, &mut out)?;
     let e = wire::complement(-3);
     let back = [1, 5, 0, e];

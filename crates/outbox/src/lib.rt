@@ -3,7 +3,7 @@
 
 ghost use Rattle.std.specs.Prelude.{◌≡◌, ◌≤◌};
 ghost use Rattle.rules.specs.Parts.{message, no_message};
-ghost use Rattle.rules.specs.Messages.{nothing as nothing', post as post', post_unless, to_each, to_others};
+ghost use Rattle.rules.specs.Messages.{nothing as nothing', post as post', to_each, to_others};
 
 use types::{Body, Message, Outbox};
 
@@ -22,10 +22,9 @@ pub fn no_message() -> Message
 pub fn nothing() -> Outbox
     ensures { result ≡ nothing' }
 {
-    let none = no_message();
     Outbox {
         count: 0,
-        messages: [none; 4],
+        messages: [no_message(); 4],
     }
 }
 
@@ -34,38 +33,20 @@ pub fn post(o: Outbox, m: Message) -> Outbox
     requires { o.count ≤ 4 }
     ensures { result ≡ post' o m }
 {
-    let mut p = o;
-    let n = o.count;
-    p.count = n + 1;
-    if n < 4 {
-        let at = n as usize;
-        p.messages[at] = m;
-        return p;
+    let mut out = o;
+    if o.count < 4 {
+        out.messages[o.count as usize] = m;
     }
-    p
+    out.count += 1;
+    out
 }
 
-fn post_unless(out: bool, o: Outbox, m: Message) -> Outbox
-    requires { o.count ≤ 4 }
-    ensures { result ≡ post_unless out o m }
-{
-    if out { o } else { post(o, m) }
-}
-
-// The message m to each of n servers, in order, and nothing else.
+// The message m to each of n servers, in order, and nothing else. None of them is server n, which is left out.
 pub fn to_each(m: Message, n: u32) -> Outbox
     requires { n ≤ 4 }
     ensures { result ≡ to_each (λ j. message m.sender j m.interaction m.body) n nothing' }
 {
-    let mut out = nothing();
-    let mut j = 0;
-    while j < n {
-        let mut one = m;
-        one.receiver = j;
-        out = post_unless(false, out, one);
-        j += 1;
-    }
-    out
+    to_others(n, m, n, nothing())
 }
 
 // After what o holds, the message m to each of n servers other than k, in order.
@@ -74,12 +55,11 @@ pub fn to_others(k: u32, m: Message, n: u32, o: Outbox) -> Outbox
     ensures { result ≡ to_others k (λ j. message m.sender j m.interaction m.body) n o }
 {
     let mut out = o;
-    let mut j = 0;
-    while j < n {
-        let mut one = m;
-        one.receiver = j;
-        out = post_unless(j == k, out, one);
-        j += 1;
+    for j in 0..n {
+        let itself = j == k;
+        if !itself {
+            out = post(out, Message { receiver: j, ..m });
+        }
     }
     out
 }

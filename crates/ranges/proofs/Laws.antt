@@ -22,10 +22,6 @@ waiting_told f e =
     let t : T (numbers_in_range f) = rw e tt in
     leb→le f.waiting 128 (and_r (is_within 1 (last_interaction + 1) f.next) _ (and_r (leb f.time last_time) _ t))
 
--- so they are, where the code has tested one after the other
-pub numbers_by : (f : Facade) {x y z : Bool} → x ≡ is_within 1 (last_interaction + 1) f.next → y ≡ (x and leb f.waiting most_waiting) → z ≡ (leb f.time last_time and y) → z ≡ numbers_in_range f
-numbers_by f p q r = rw (r, q, p)
-
 grouped : (b c d e : Bool) → (b and c and d and e) ≡ ((b and c and d) and e)
 unfolding ◌and◌
 grouped true true d e = refl

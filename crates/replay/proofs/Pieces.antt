@@ -6,7 +6,8 @@ use Prim.Native.Nat.{ℕ, zero, suc, ◌+◌, ◌-◌, ◌≤◌, ◌<◌}
 use native.Mathlib.Numerals.{add-one}
 use native.Mathlib.Omega.{arith}
 use lib.Dec.{leb}
-use lib.ListN.{length}
+use lib.ListN.{length, take, drop}
+use lib.Seq.{take-append_seam}
 use Rattle.types.specs.declared.Facade.{Facade}
 use Rattle.types.specs.declared.Answer.{Answer}
 use Rattle.rules.specs.Steps.{step, held_clients}
@@ -90,6 +91,32 @@ pieces_are_output s n e t =
     let swap : n + N ≡ N + n = omega arith in
     ap (λ (v : List ℕ). first_line s ++ v) (sym one ∙ ap (λ (j : ℕ). lines_from j f s p k) swap ∙ two) ∙ sym (output_begun s e)
 
+-- what a run prints from here on
+abbrev pub rest : List ℕ → Progress → List ℕ
+rest s r = more s (length s + 1) r
+
+-- nothing, where it has ended
+pub rest_none : (s : List ℕ) (r : Progress) → r.ended ≡ true → rest s r ≡ []
+rest_none s r e = rw e refl
+
+-- all behind the first line, where it has begun
+pub rest_begins : (s : List ℕ) (r : Progress) → r ≡ beginning s → first_line s ++ rest s r ≡ output s
+unfolding output
+rest_begins s r e = rw e refl
+
+-- else the lines of n turns, and what the run prints behind them
+pub rest_goes_on : (s : List ℕ) (n : ℕ) (r x : Progress) → r.ended ≡ false → x ≡ progress_from n r.facade s r.place r.number
+    → lines_from n r.facade s r.place r.number ++ rest s x ≡ rest s r
+rest_goes_on s n r x e q =
+    let f = r.facade in
+    let p = r.place in
+    let k = r.number in
+    let N = length s + 1 in
+    let late : (progress_from N f s p k).ended ≡ true = rw add-one (in_time s (length s) f p k (omega arith)) in
+    let swap : n + N ≡ N + n = omega arith in
+    let joined : lines_from (n + N) f s p k ≡ lines_from N f s p k = ap (λ (j : ℕ). lines_from j f s p k) swap ∙ nothing_more s N n f p k late in
+    rw (q, e) (sym (pieces_join s n N f p k) ∙ joined)
+
 -- how far a run is from its end, at most: none where it has ended
 abbrev pub turns_left : Progress → ℕ
 turns_left r = cond r.ended 0 (65537 - r.place)
@@ -107,6 +134,10 @@ lies_within : (l m v : List ℕ) (e : ℕ) → length l ≡ most_piece → lengt
 lies_within l m v e large fits d q =
     let kept : length m ≡ length l = rw q (over_length l 0 v (omega arith)) in
     (omega arith, omega arith)
+
+-- and is there
+pub front_is_put : (l m v : List ℕ) (e : ℕ) → e ≡ length v → m ≡ over l 0 v → take e m ≡ v
+front_is_put l m v e d q = rw (d, q) (take-append_seam v (drop (0 + length v) l))
 
 pub first_within : (s l m : List ℕ) (e : ℕ) → length l ≡ most_piece → e ≡ length (first_line s) → m ≡ over l 0 (first_line s) → (e ≤ length m) × (length m ≡ most_piece)
 first_within s l m e large = lies_within l m (first_line s) e large (omega (arith, first_line_short s))

@@ -15,7 +15,7 @@ use Rattle.rules.proofs.Ranges.{fresh_sound}
 use Rattle.rules.proofs.Bounds.{unless_high}
 use Rattle.wire.specs.Numbers.{over}
 use Rattle.wire.proofs.Over.{over_length}
-use Rattle.script.specs.Reading.{longest, is_script, config_read, header_in}
+use Rattle.script.specs.Reading.{longest, is_script, no_config, config_read, header_in}
 use Rattle.script.specs.declared.Header.{Header}
 use Rattle.report.specs.Lines.{record_line, facade_line}
 use Rattle.report.proofs.Laws.{Put, record_line_short, facade_line_short}
@@ -116,6 +116,22 @@ output_ended s e = rw e (append-nil (first_line s))
 pub output_begun : (s : List ℕ) → (beginning s).ended ≡ false → output s ≡ first_line s ++ begun (length s + 1) s
 unfolding output
 output_begun s e = rw e
+
+-- what is too long is no script
+no_header : (s : List ℕ) → longest < length s → header_in s ≡ record { refusal = 1; config = no_config }
+unfolding header_in
+no_header s h =
+    cond_case (λ (x : Header). x ≡ record { refusal = 1; config = no_config }) (is_script s) _ _
+    (λ t. absurd (omega (arith, h, within_high 29 longest (length s) (and_l _ _ t))))
+    (λ _. refl)
+
+-- and has one output
+too_long : (s : List ℕ) → longest < length s → output s ≡ record_line 0 1 0 0 0
+unfolding output first_line beginning
+too_long s h = rw (no_header s h) (append-nil (record_line 0 1 0 0 0))
+
+pub long_alike : (s t : List ℕ) → longest < length s → longest < length t → output s ≡ output t
+long_alike s t h k = too_long s h ∙ sym (too_long t k)
 
 -- all the lines of a run that has begun fit behind the first
 pub begun_fits : (s : List ℕ) → (beginning s).ended ≡ false → (n : ℕ) → length (begun n s) ≤ 852000

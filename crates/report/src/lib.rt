@@ -1,59 +1,15 @@
 // Lines of output put into a buffer, as bytes. Each function answers the place behind what it put.
+// No `write!`: its contract does not say which bytes a slice gets, and a line took six times as long (100 for 16 ns).
 #![tactic(auto)]
 
-ghost use Rattle.std.specs.Prelude.{◌≡◌, [], ◌∷◌, ◌++◌, ◌+◌, ◌≤◌, ◌<◌, length};
+ghost use Rattle.std.specs.Prelude.{◌≡◌, ◌++◌, ◌+◌, ◌*◌, ◌≤◌, length, flat_map};
 ghost use Rattle.wire.specs.Numbers.{over};
 ghost use Rattle.report.specs.Lines.{decimal, spaced, line_end, record_line, facade_line, held_line};
 
+use itoa::write_digits;
 use types::Config;
-use wire::put_byte;
 
-// One digit.
-fn put_digit(out: &mut [u8], at: usize, n: u32) -> usize
-    requires n_bound { n < 10 }
-    requires at_in_bounds { at + 1 ≤ length out.old }
-    ensures value { result ≡ at + 1 }
-    ensures out_after { out.new ≡ over out.old at ((48 + n) ∷ []) }
-{
-    put_byte(out, at, (48 + n) as u8);
-    at + 1
-}
-
-// How many decimal digits n has. A number of 32 bits has at most ten.
-fn digits_of(n: u32) -> usize
-    ensures { result ≡ length (decimal n) }
-{
-    if n < 10 {
-        return 1;
-    }
-    if n < 100 {
-        return 2;
-    }
-    if n < 1000 {
-        return 3;
-    }
-    if n < 10000 {
-        return 4;
-    }
-    if n < 100000 {
-        return 5;
-    }
-    if n < 1000000 {
-        return 6;
-    }
-    if n < 10000000 {
-        return 7;
-    }
-    if n < 100000000 {
-        return 8;
-    }
-    if n < 1000000000 {
-        return 9;
-    }
-    10
-}
-
-// The decimal digits of n, from the last to the first. Many numbers have one digit, which needs no count.
+// The decimal digits of n. Many numbers have one digit, which needs no count: without that case a line took 24 ns for 18.
 fn put_digits(out: &mut [u8], at: usize, n: u32) -> usize
     requires { at + 10 ≤ length out.old }
     ensures upper_bound { result ≤ at + 10 }
@@ -61,17 +17,12 @@ fn put_digits(out: &mut [u8], at: usize, n: u32) -> usize
     ensures out_after { out.new ≡ over out.old at (decimal n) }
 {
     if n < 10 {
-        return put_digit(out, at, n);
+        out[at] = b'0' + n as u8;
+        return at + 1;
     }
-    let count = digits_of(n);
-    let mut i = count;
-    let mut rest = n;
-    while 0 < i {
-        i -= 1;
-        put_digit(out, at + i, rest % 10);
-        rest = rest / 10;
-    }
-    at + count
+    let end = at + n.ilog10() as usize + 1;
+    write_digits(u64::from(n), out, end);
+    end
 }
 
 // A space and the decimal digits of n.
@@ -81,30 +32,22 @@ fn put_spaced(out: &mut [u8], at: usize, n: u32) -> usize
     ensures value { result ≡ at + length (spaced n) }
     ensures out_after { out.new ≡ over out.old at (spaced n) }
 {
-    put_byte(out, at, 32);
+    out[at] = b' ';
     put_digits(out, at + 1, n)
 }
 
-// The last number of a line, and its end.
-fn put_last(out: &mut [u8], at: usize, n: u32) -> usize
-    requires { at + 12 ≤ length out.old }
-    ensures value { result ≡ at + length (spaced n ++ line_end) }
-    ensures out_after { out.new ≡ over out.old at (spaced n ++ line_end) }
+// The numbers of a line, each behind a space, and its end.
+fn put_numbers(out: &mut [u8], at: usize, numbers: &[u32]) -> usize
+    requires { at + 11 * length numbers.now + 1 ≤ length out.old }
+    ensures value { result ≡ at + length (flat_map spaced numbers.now ++ line_end) }
+    ensures out_after { out.new ≡ over out.old at (flat_map spaced numbers.now ++ line_end) }
 {
-    let p = put_spaced(out, at, n);
-    put_byte(out, p, 10);
+    let mut p = at;
+    for n in numbers {
+        p = put_spaced(out, p, *n);
+    }
+    out[p] = b'\n';
     p + 1
-}
-
-// The last three numbers of a line, and its end.
-fn put_last_three(out: &mut [u8], at: usize, a: u32, b: u32, c: u32) -> usize
-    requires { at + 34 ≤ length out.old }
-    ensures value { result ≡ at + length (spaced a ++ spaced b ++ spaced c ++ line_end) }
-    ensures out_after { out.new ≡ over out.old at (spaced a ++ spaced b ++ spaced c ++ line_end) }
-{
-    let p = put_spaced(out, at, a);
-    let p = put_spaced(out, p, b);
-    put_last(out, p, c)
 }
 
 // The bytes of a word.
@@ -113,12 +56,9 @@ fn put_word(out: &mut [u8], at: usize, word: &[u8]) -> usize
     ensures value { result ≡ at + length word.now }
     ensures out_after { out.new ≡ over out.old at word.now }
 {
-    let mut i = 0;
-    while i < word.len() {
-        put_byte(out, at + i, word[i]);
-        i += 1;
-    }
-    at + i
+    let end = at + word.len();
+    out[at..end].copy_from_slice(word);
+    end
 }
 
 // The line of a record: its number, refusal, outcome, true time and waiting messages.
@@ -136,8 +76,7 @@ pub fn put_record_line(
     ensures out_after { out.new ≡ over out.old at (record_line k refusal outcome time waiting) }
 {
     let p = put_digits(out, at, k);
-    let p = put_spaced(out, p, refusal);
-    put_last_three(out, p, outcome, time, waiting)
+    put_numbers(out, p, &[refusal, outcome, time, waiting])
 }
 
 // The first line.
@@ -147,7 +86,7 @@ pub fn put_facade_line(out: &mut [u8], at: usize, c: Config) -> usize
     ensures out_after { out.new ≡ over out.old at (facade_line c) }
 {
     let p = put_word(out, at, b"facade");
-    put_last_three(out, p, c.servers, c.clients, c.addresses)
+    put_numbers(out, p, &[c.servers, c.clients, c.addresses])
 }
 
 // The last line.
@@ -157,5 +96,5 @@ pub fn put_held_line(out: &mut [u8], at: usize, n: u32) -> usize
     ensures out_after { out.new ≡ over out.old at (held_line n) }
 {
     let p = put_word(out, at, b"held");
-    put_last(out, p, n)
+    put_numbers(out, p, &[n])
 }

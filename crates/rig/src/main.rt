@@ -1,26 +1,41 @@
 // Runs the script on standard input and prints what its records do, piece by piece.
 #![tactic(auto)]
 
+ghost use Rattle.std.specs.Prelude.{OnOk, IfSome};
+ghost use Rattle.std.specs.Io.KnownBytes.{Appends};
+ghost use Rattle.replay.specs.Output.{output};
+
 use input::read_full;
 use std::io;
-use std::io::Write;
+use std::io::{Read, Write};
 
-fn main(rt: HostRuntime) -> io::Result<()> {
-    // one byte more than the longest script, so that a longer one is seen to be longer
-    let mut script = [0u8; 65537];
-    let n = read_full(&mut rt.stdin(), &mut script)?;
+// Writes the output of a script, and nothing else.
+fn print_run<W: Write>(to: &mut W, s: &[u8]) -> io::Result<()>
+    ensures { OnOk result (Appends (W.contents to.old) (W.contents to.new) (output s.now)) }
+{
     let mut out = [0u8; 65536];
-    let first = replay::begin(&script[..n], &mut out);
-    let k = first.end;
-    let mut stdout = rt.stdout();
+    let first = replay::begin(s, &mut out);
     // what follows a piece that could not be written would not stand behind it
-    stdout.write_all(&out[..k])?;
+    to.write_all(&out[..first.end])?;
     let mut r = first.progress;
     while !r.ended {
-        let next = replay::go_on(&script[..n], r, &mut out);
-        let k = next.end;
-        stdout.write_all(&out[..k])?;
+        let next = replay::go_on(s, r, &mut out);
+        to.write_all(&out[..next.end])?;
         r = next.progress;
     }
     Ok(())
+}
+
+// Writes the output of the script that a reader has. What that is and what a writer holds is known of those over memory.
+fn run<R: Read, W: Write>(from: &mut R, to: &mut W) -> io::Result<()>
+    ensures { OnOk result (IfSome (R.remaining from.old) (λ s. Appends (W.contents to.old) (W.contents to.new) (output s))) }
+{
+    // one byte more than the longest script, so that a longer one is seen to be longer
+    let mut script = [0u8; 65537];
+    let n = read_full(from, &mut script)?;
+    print_run(to, &script[..n])
+}
+
+fn main(rt: HostRuntime) -> io::Result<()> {
+    run(&mut rt.stdin(), &mut rt.stdout())
 }

@@ -1,28 +1,31 @@
--- The writer's tests in their order.
-use mathlib.Core.Path.{◌≡◌, refl, ◌∙◌}
+-- Where the writer's configuration and steps are accepted, the length decides.
+use mathlib.Core.Path.{◌≡◌, sym, ◌∙◌}
 use mathlib.Core.Bool.{Bool, true, false}
 use mathlib.Core.List.{List}
 use Prim.Native.Nat.{ℕ, ◌+◌}
+use Rattle.std.specs.Prelude.{◌&&◌}
 use lib.Dec.{leb}
 use lib.ListN.{length}
 use Rattle.types.specs.declared.Config.{Config}
 use Rattle.types.specs.declared.Step.{Step}
-use Rattle.rules.specs.Conditions.{◌and◌, unless}
+use Rattle.rules.specs.Conditions.{unless}
 use Rattle.rules.specs.Ranges.{config_in_range}
 use Rattle.script.specs.Layout.{records_of}
-use Rattle.script.specs.Reading.{longest, or_else}
+use Rattle.script.specs.Reading.{longest}
 use Rattle.script.specs.Writing.{steps_refusal, write_refusal}
+use Rattle.script.proofs.Laws.{and_is}
 use Rattle.script.proofs.Round.{script_length}
 
--- the configuration comes first
-config_first : (b : Bool) (later : ℕ) → or_else (unless b 2 0) later ≡ unless b 2 later
-unfolding unless
-config_first true later = refl
-config_first false later = refl
-
 module _ (c : Config) (ss : List Step) (room : ℕ) {size : ℕ} (whole : size ≡ 29 + length (records_of ss))
-    {t u : Bool} (p : t ≡ config_in_range c) (q : u ≡ (leb size longest and leb size room)) where
-  pub in_order : {x y z later n : ℕ} → x ≡ unless t 2 0 → y ≡ steps_refusal ss → z ≡ unless u 1 0 → later ≡ or_else y z → n ≡ or_else x later
-      → n ≡ write_refusal c ss room
-  unfolding write_refusal
-  in_order ex ey ez el en = en ∙ rw (el, ex, ey, ez, p, q, script_length, ← whole) (config_first (config_in_range c) _)
+    (t : true ≡ config_in_range c) (e : 0 ≡ steps_refusal ss) {ok : Bool} (p : ok ≡ (leb size longest && leb size room)) where
+  by_length : write_refusal c ss room ≡ unless ok 1 0
+  unfolding write_refusal unless
+  by_length = rw (← t, ← e, script_length, ← whole, and_is (leb size longest) (leb size room), ← p)
+
+  pub fits : ok ≡ true → 0 ≡ write_refusal c ss room
+  unfolding unless
+  fits h = sym (by_length ∙ rw h)
+
+  pub too_long : ok ≡ false → 1 ≡ write_refusal c ss room
+  unfolding unless
+  too_long h = sym (by_length ∙ rw h)

@@ -16,7 +16,9 @@ use Rattle.types.specs.declared.Body.{Body}
 use Rattle.types.specs.declared.Body.TheVariants.{Empty, Discover, Offer, Request, Renew, Write, WriteAck, Ack}
 use Rattle.types.specs.declared.Message.{Message}
 use Rattle.types.specs.declared.Facade.{Facade}
-use Rattle.types.specs.declared.ClientAnswer.{ClientAnswer}
+use Rattle.types.specs.declared.Outcome.{Outcome}
+use Rattle.types.specs.declared.Outcome.TheVariants.{Done, Unmet}
+use Rattle.types.specs.declared.Reaction.{Reaction}
 use Rattle.rules.specs.Conditions.{◌and◌, filled}
 use Rattle.rules.specs.Parts.{no_client, in_state, state_at, offset_at, clock, client_party, message, with_next}
 use Rattle.rules.specs.Messages.{nothing}
@@ -69,7 +71,7 @@ module _ (f : Facade) (g : Ranged f) (v : Leased (world f)) where
       (says : (to i' a e : ℕ) → Says f.config (client_party f.config i) to b i' a e → Claim (world f) i' a e)
       (len : length f.messages ≡ 128) where
     after : Facade
-    after = (client_acts (with_next f n) i (reply x 0 (broadcast f.config i q b))).facade
+    after = (client_acts (with_next f n) i (reply x Done (broadcast f.config i q b))).facade
 
     module _ (room : after.waiting ≤ 128) where
       from_where : (m : Message) → Waits after m → Or (Waits f m) (ToServer (λ j. message (client_party f.config i) j q b) f.config.servers m)
@@ -95,8 +97,8 @@ module _ (f : Facade) (g : Ranged f) (v : Leased (world f)) where
 
   -- a client that does not hold discovers
   discover_go : (i : ℕ) → length f.messages ≡ 128 → (b : Bool) → T (not b)
-      → (client_acts (with_next f (f.next + 1)) i (cond b (reply (state_at f i) 1 nothing) (reply (Asking f.next) 0 (broadcast f.config i f.next Discover)))).facade.waiting ≤ 128
-      → Leased (world (client_acts (with_next f (f.next + 1)) i (cond b (reply (state_at f i) 1 nothing) (reply (Asking f.next) 0 (broadcast f.config i f.next Discover)))).facade)
+      → (client_acts (with_next f (f.next + 1)) i (cond b (reply (state_at f i) Unmet nothing) (reply (Asking f.next) Done (broadcast f.config i f.next Discover)))).facade.waiting ≤ 128
+      → Leased (world (client_acts (with_next f (f.next + 1)) i (cond b (reply (state_at f i) Unmet nothing) (reply (Asking f.next) Done (broadcast f.config i f.next Discover)))).facade)
   unfolding after is_holding
   discover_go i len true n room = absurd n
   discover_go i len false n room =
@@ -192,29 +194,29 @@ module _ (f : Facade) (g : Ranged f) (v : Leased (world f)) where
   -- Messages to client i, which sends nothing then.
 
   module _ (i : ℕ) (hi : i < f.config.clients) (out : Message → Type 0) where
-    abbrev pub Keeps : ClientAnswer → Type 0
-    Keeps x = ((m : Message) → out m → Or (Waits f m) (Posted x.outbox m)) → Leased (passed_by (world f) f.time f.offsets (set f.clients i x.client) out)
+    abbrev pub Keeps : Reaction Client → Type 0
+    Keeps x = ((m : Message) → out m → Or (Waits f m) (Posted x.outbox m)) → Leased (passed_by (world f) f.time f.offsets (set f.clients i x.after) out)
 
     waited : (m : Message) → Or (Waits f m) (Posted nothing m) → Waits f m
     waited m (inl y) = y
     waited m (inr y) = posted_nothing m y
 
-    comes_to : (x : State) (n : ℕ) → Becomes i x → Keeps (reply x n nothing)
+    comes_to : (x : State) (n : Outcome) → Becomes i x → Keeps (reply x n nothing)
     comes_to x n new sub = client_leased i x out new (λ m y. v.acks m (waited m (sub m y))) (λ m y i' a e c. sent m (waited m (sub m y)) c)
 
-    unmoved : Keeps (reply (state_at f i) 1 nothing)
-    unmoved = comes_to (state_at f i) 1 (stays i hi)
+    unmoved : Keeps (reply (state_at f i) Unmet nothing)
+    unmoved = comes_to (state_at f i) Unmet (stays i hi)
 
     keeps_offer : (q a : ℕ) → Keeps (on_offer (state_at f i) q a)
     unfolding on_offer is_holding
     keeps_offer q a =
-        cond_case Keeps (asks_with (state_at f i) q) (reply (Offered q a) 0 nothing) _ (λ _. comes_to (Offered q a) 0 (becomes_unheld i (Offered q a) tt)) (λ _. unmoved)
+        cond_case Keeps (asks_with (state_at f i) q) (reply (Offered q a) Done nothing) _ (λ _. comes_to (Offered q a) Done (becomes_unheld i (Offered q a) tt)) (λ _. unmoved)
 
     keeps_ack : (q a e : ℕ) → Claim (world f) i a e → Keeps (on_ack (clock f (client_party f.config i)) (state_at f i) q a e)
     unfolding on_ack
     keeps_ack q a e c =
-        cond_case Keeps (expects (state_at f i) q a and ltb (clock f (client_party f.config i)) e) (reply (Holding a (new_end (state_at f i) e) q) 0 nothing) _
-        (λ t. comes_to (Holding a e q) 0 (λ a' e' q' y. let p : a ≡ a' = cc in let p' : e ≡ e' = cc in
+        cond_case Keeps (expects (state_at f i) q a and ltb (clock f (client_party f.config i)) e) (reply (Holding a (new_end (state_at f i) e) q) Done nothing) _
+        (λ t. comes_to (Holding a e q) Done (λ a' e' q' y. let p : a ≡ a' = cc in let p' : e ≡ e' = cc in
         (rw (← p, ← p') c, rw (← p') (ltb→lt _ _ (and_r (expects (state_at f i) q a) (ltb (clock f (client_party f.config i)) e) t)))))
         (λ _. unmoved)
 

@@ -11,9 +11,7 @@ use Rattle.types.specs.declared.State.TheVariants.{Idle, Asking, Offered, Waitin
 use Rattle.types.specs.declared.Body.{Body}
 use Rattle.types.specs.declared.Body.TheVariants.{Empty, Discover, Offer, Request, Renew, Write, WriteAck, Ack}
 use Rattle.types.specs.declared.Message.{Message}
-use Rattle.types.specs.declared.ServerAnswer.{ServerAnswer}
-use Rattle.types.specs.declared.BindingAnswer.{BindingAnswer}
-use Rattle.types.specs.declared.ClientAnswer.{ClientAnswer}
+use Rattle.types.specs.declared.Reaction.{Reaction}
 use Rattle.rules.specs.Conditions.{◌and◌}
 use Rattle.rules.specs.Parts.{message, client_party}
 use Rattle.rules.specs.Messages.{nothing, post}
@@ -22,35 +20,29 @@ use Rattle.rules.specs.Client.{is_holding, broadcast, discovers, requests, renew
 use Rattle.rules.proofs.Laws.{cond_case}
 use Rattle.rules.proofs.Cable.{servers_count, others_count}
 
-abbrev Few : ServerAnswer → Type 0
+abbrev Few : {T : Type 0} → Reaction T → Type 0
 Few x = x.outbox.count ≤ 4
 
-abbrev FewAt : BindingAnswer → Type 0
-FewAt x = x.outbox.count ≤ 4
-
 module _ (c : Config) (k : ℕ) (few : c.servers ≤ 4) (hk : k < c.servers) where
-  few_granted : (b : Binding) (p q a t l : ℕ) → FewAt (granted c k b p q a t l)
+  few_granted : (b : Binding) (p q a t l : ℕ) → Few (granted c k b p q a t l)
   unfolding granted
   few_granted b p q a t l =
       omega (arith, others_count k (λ j. message k j q (Write a (written_end t l))) (post nothing (message k p q (Ack a (ack_end t l)))) c.servers hk)
 
-  few_at : (r : ℕ) (b : Binding) (p q a : ℕ) (x : Body) → FewAt (handled_at c k r b p q a x)
+  few_at : (r : ℕ) (b : Binding) (p q a : ℕ) (x : Body) → Few (handled_at c k r b p q a x)
   unfolding handled_at on_discover offered on_request on_renew on_write on_write_ack
   few_at r b p q a Empty = omega arith
-  few_at r b p q a Discover = cond_case FewAt (offerable c r b) _ _ (λ _. omega arith) (λ _. omega arith)
+  few_at r b p q a Discover = cond_case Few (offerable c r b) _ _ (λ _. omega arith) (λ _. omega arith)
   few_at r b p q a (Offer _) = omega arith
-  few_at r b p q a (Request _ t) = cond_case FewAt (grantable c r b) _ _ (λ _. few_granted _ p q a t _) (λ _. omega arith)
-  few_at r b p q a (Renew _ e t) = cond_case FewAt (b.leads and leb r e) _ _ (λ _. few_granted _ p q a t _) (λ _. omega arith)
+  few_at r b p q a (Request _ t) = cond_case Few (grantable c r b) _ _ (λ _. few_granted _ p q a t _) (λ _. omega arith)
+  few_at r b p q a (Renew _ e t) = cond_case Few (b.leads and leb r e) _ _ (λ _. few_granted _ p q a t _) (λ _. omega arith)
   few_at r b p q a (Write _ v) = omega arith
-  few_at r b p q a (WriteAck _ v) = cond_case FewAt (b.leads and matches_write q v b.write.pending) _ _ (λ _. omega arith) (λ _. omega arith)
+  few_at r b p q a (WriteAck _ v) = cond_case Few (b.leads and matches_write q v b.write.pending) _ _ (λ _. omega arith) (λ _. omega arith)
   few_at r b p q a (Ack _ e) = omega arith
 
   pub few_received : (r : ℕ) (s : Server) (m : Message) → (server_receives c k r s m).outbox.count ≤ 4
   unfolding server_receives server_handles
   few_received r s m = cond_case Few s.alive _ _ (λ _. few_at r _ m.sender m.interaction _ m.body) (λ _. omega arith)
-
-abbrev FewSent : ClientAnswer → Type 0
-FewSent x = x.outbox.count ≤ 4
 
 module _ (c : Config) (i : ℕ) (few : c.servers ≤ 4) where
   few_broadcast : (q : ℕ) (b : Body) → (broadcast c i q b).count ≤ 4
@@ -58,7 +50,7 @@ module _ (c : Config) (i : ℕ) (few : c.servers ≤ 4) where
 
   pub few_discovers : (x : State) (q : ℕ) → (discovers c i x q).outbox.count ≤ 4
   unfolding discovers
-  few_discovers x q = cond_case FewSent (is_holding x) _ _ (λ _. omega arith) (λ _. few_broadcast q Discover)
+  few_discovers x q = cond_case Few (is_holding x) _ _ (λ _. omega arith) (λ _. few_broadcast q Discover)
 
   pub few_requests : (x : State) (t : ℕ) → (requests c i x t).outbox.count ≤ 4
   unfolding requests
@@ -80,12 +72,12 @@ pub few_replied : (r : ℕ) (x : State) (m : Message) → (client_receives r x m
 unfolding client_handles on_offer on_ack
 few_replied r x m = go m.body
   where
-    go : (b : Body) → FewSent (client_handles r x m.interaction b)
+    go : (b : Body) → Few (client_handles r x m.interaction b)
     go Empty = omega arith
     go Discover = omega arith
-    go (Offer a) = cond_case FewSent (asks_with x m.interaction) _ _ (λ _. omega arith) (λ _. omega arith)
+    go (Offer a) = cond_case Few (asks_with x m.interaction) _ _ (λ _. omega arith) (λ _. omega arith)
     go (Request a t) = omega arith
     go (Renew a e t) = omega arith
     go (Write a v) = omega arith
     go (WriteAck a v) = omega arith
-    go (Ack a e) = cond_case FewSent (expects x m.interaction a and ltb r e) _ _ (λ _. omega arith) (λ _. omega arith)
+    go (Ack a e) = cond_case Few (expects x m.interaction a and ltb r e) _ _ (λ _. omega arith) (λ _. omega arith)

@@ -1,7 +1,7 @@
 -- The claims about the table of effects, computed by `step`; what a return leaves of a server, how many clients hold, and the
 -- answer to a configuration.
-use Rattle.std.specs.Prelude.{◌≡◌, refl, true, false, [], ◌∷◌, ◌++◌, map, replicate}
-use Rattle.types.specs.declared.Reserved.TheVariants.{Free}
+use Rattle.std.specs.Prelude.{◌≡◌, refl, true, false, [], ◌∷◌, ◌++◌, map, replicate, None}
+use Rattle.types.specs.declared.Outcome.TheVariants.{Done}
 use Rattle.rules.specs.Conditions.{◌and◌, counted}
 use Rattle.rules.specs.Server.{after_return}
 use Rattle.rules.specs.Client.{is_holding}
@@ -19,8 +19,8 @@ effects_hold = refl
 return_holds :
     after_return 101 (numbered 2 false)
     ≡ record {
-      server = server_of true 95 101 (replicate 4 true) (replicate 32 false) (replicate 32 (record { state = Free })) (replicate 32 0) (numbered 2 false).potlease (replicate 32 shut);
-      outcome = 0;
+      after = server_of true 95 101 (replicate 4 true) (replicate 32 false) (replicate 32 None) (replicate 32 0) (numbered 2 false).potlease (replicate 32 shut);
+      outcome = Done;
       outbox = record { count = 0; messages = replicate 4 none };
     }
 unfolding after_return

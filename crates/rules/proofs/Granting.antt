@@ -9,10 +9,9 @@ use native.Mathlib.Omega.{arith}
 use lib.Dec.{T, leb, leb→le, ltb→lt, eqb→eq}
 use lib.ListN.{length, get_or, set, replicate, length-set}
 use lib.Seq.{get_or-set_same, set-get_or}
-use Rattle.types.specs.declared.Reserved.TheVariants.{Taken}
+use Rattle.std.specs.Prelude.{Option, Some, None}
 use Rattle.types.specs.declared.Reservation.{Reservation}
 use Rattle.types.specs.declared.Pending.{Pending}
-use Rattle.types.specs.declared.Pending.TheVariants.{Closed, Open}
 use Rattle.types.specs.declared.OpenWrite.{OpenWrite}
 use Rattle.types.specs.declared.Server.{Server}
 use Rattle.types.specs.declared.Binding.{Binding}
@@ -21,12 +20,14 @@ use Rattle.types.specs.declared.Body.TheVariants.{Empty, Discover, Offer, Reques
 use Rattle.types.specs.declared.Message.{Message}
 use Rattle.types.specs.declared.Facade.{Facade}
 use Rattle.types.specs.declared.Outbox.{Outbox}
-use Rattle.types.specs.declared.ServerAnswer.{ServerAnswer}
+use Rattle.types.specs.declared.Outcome.{Outcome}
+use Rattle.types.specs.declared.Outcome.TheVariants.{Done, Unmet, Dead}
+use Rattle.types.specs.declared.Reaction.{Reaction}
 use Rattle.rules.specs.Conditions.{◌and◌, all}
-use Rattle.rules.specs.Parts.{no_server, no_write, server_at, clock, client_party, message, leads_at, lent_at, potlease_at, write_at, binding_at, with_reserved, with_binding, with_reservation, with_lease}
+use Rattle.rules.specs.Parts.{taken, no_server, no_write, server_at, clock, client_party, message, leads_at, lent_at, potlease_at, write_at, binding_at, with_reserved, with_binding, with_reservation, with_lease}
 use Rattle.rules.specs.Ranges.{is_client, body_in_range, message_in_range}
-use Rattle.rules.specs.Messages.{nothing}
-use Rattle.rules.specs.Server.{answer, binding_answer, at_address, closed, opened, reservations_by, expiry_slack, has_passed, offerable, offered, on_discover, address_for, handled_at, is_request, written_end, ack_end, granted, freed_if_of, dropped, grantable, on_request, on_renew, on_write, matches_write, acknowledged, on_write_ack, server_handles, server_receives}
+use Rattle.rules.specs.Messages.{answer, nothing}
+use Rattle.rules.specs.Server.{at_address, closed, opened, reservations_by, expiry_slack, has_passed, offerable, offered, on_discover, address_for, handled_at, is_request, written_end, ack_end, granted, freed_if_of, dropped, grantable, on_request, on_renew, on_write, matches_write, acknowledged, on_write_ack, server_handles, server_receives}
 use Rattle.rules.proofs.Laws.{Or, inl, inr, and_l, and_r, cond_case, all_at, set_case, set_any, rep_ind}
 use Rattle.rules.proofs.Cable.{Waits, Posted, ToServer, posted_nothing, posted_one, posted_others}
 use Rattle.rules.proofs.Kept.{address_low, Configured, configured, Ranged}
@@ -49,8 +50,8 @@ module _ (f : Facade) (g : Ranged f) (four : length f.servers ≡ 4) (one : OneL
   high = clock_high f g k (omega arith)
 
   -- what is to be shown of an answer
-  abbrev pub Keeps : ServerAnswer → Type 0
-  Keeps x = ((m : Message) → out m → Or (Waits f m) (Posted x.outbox m)) → Leased (served_by (world f) k x.server out)
+  abbrev pub Keeps : Reaction Server → Type 0
+  Keeps x = ((m : Message) → out m → Or (Waits f m) (Posted x.outbox m)) → Leased (served_by (world f) k x.after out)
 
   -- Answers that lend nothing: lent ends, records and open writes as they were, and no message that matters.
 
@@ -58,17 +59,17 @@ module _ (f : Facade) (g : Ranged f) (four : length f.servers ≡ 4) (one : OneL
   by o m (inl p) old new = old p
   by o m (inr p) old new = new p
 
-  same : (rs : List Reservation) → Raised (world f) k (with_reserved (server_at f k) rs)
+  same : (rs : List (Option Reservation)) → Raised (world f) k (with_reserved (server_at f k) rs)
   same rs = record { place = place; row = v.rows k hk; up = λ a. le_refl _; lead = λ a e ha al le c. c.led k hk al le }
 
-  pub silent : (rs : List Reservation) (n : ℕ) → Keeps (answer (with_reserved (server_at f k) rs) n nothing)
+  pub silent : (rs : List (Option Reservation)) (n : Outcome) → Keeps (answer (with_reserved (server_at f k) rs) n nothing)
   silent rs n sub = still (world f) v k (with_reserved (server_at f k) rs) out (same rs) hk (λ a. refl) (λ a. refl)
       (λ m p. by nothing m (sub m p) (v.acks m) (λ x. posted_nothing m x))
       (λ m p i a e c. by nothing m (sub m p) (λ x. sent m x c) (λ x. posted_nothing m x))
 
   -- What is kept for address a replaced by b, which leads as before and records no less.
 
-  module _ (a : ℕ) (ha : a < f.config.addresses) (rs : List Reservation) (b : Binding) (leads : b.leads ≡ leads_at (server_at f k) a)
+  module _ (a : ℕ) (ha : a < f.config.addresses) (rs : List (Option Reservation)) (b : Binding) (leads : b.leads ≡ leads_at (server_at f k) a)
       (more : potlease_at (server_at f k) a ≤ b.potlease) where
     lender : Server
     lender = with_binding (with_reserved (server_at f k) rs) a b
@@ -114,7 +115,7 @@ module _ (f : Facade) (g : Ranged f) (four : length f.servers ≡ 4) (one : OneL
         (count_grows (world f) _ lender_grows a' _ (write_at (server_at f k) a').pending (v.opens k a' hk ha'))
 
     -- nothing is promised: the lent end is covered, the open write counts right, and what is sent promises nothing
-    unpromised : (n : ℕ) (o : Outbox) → Cov (world f) a b.lent → OpenOk (world f) a b.write
+    unpromised : (n : Outcome) (o : Outbox) → Cov (world f) a b.lent → OpenOk (world f) a b.write
         → ((m : Message) → Posted o m → BodyOk (served_by (world f) k lender out) m.sender m.body × ((i a e : ℕ) → Promises f.config m i a e → ⊥))
         → Keeps (answer lender n o)
     unpromised n o cov opn new sub = quiet (world f) v k lender out lender_raised
@@ -123,8 +124,8 @@ module _ (f : Facade) (g : Ranged f) (four : length f.servers ≡ 4) (one : OneL
         (λ m x. by o m (sub m x) (λ y. body_grows (world f) _ lender_grows m.sender m.body (v.acks m y)) (λ y. (new m y).0))
         (λ m x i a' e c. by o m (sub m x) (λ y. sent m y c) (λ y. absurd ((new m y).1 i a' e c)))
 
-  unchanged : (a : ℕ) → a < f.config.addresses → (rs : List Reservation) (n : ℕ)
-      → Keeps (at_address (with_reserved (server_at f k) rs) a (binding_answer (binding_at (with_reserved (server_at f k) rs) a) n nothing))
+  unchanged : (a : ℕ) → a < f.config.addresses → (rs : List (Option Reservation)) (n : Outcome)
+      → Keeps (at_address (with_reserved (server_at f k) rs) a (answer (binding_at (with_reserved (server_at f k) rs) a) n nothing))
   unfolding lender
   unchanged a ha rs n = unpromised a ha rs (binding_at (with_reserved (server_at f k) rs) a) refl (le_refl _) n nothing (v.lents k a hk ha) (v.opens k a hk ha) (λ m y. posted_nothing m y)
 
@@ -134,13 +135,13 @@ module _ (f : Facade) (g : Ranged f) (four : length f.servers ≡ 4) (one : OneL
   unfolding on_discover offered lender
   keeps_discover p q a ha =
       cond_case (λ x. Keeps (at_address (server_at f k) a x)) (offerable f.config (clock f k) (binding_at (server_at f k) a)) _ _
-      (λ _. unpromised a ha (server_at f k).reserved (with_reservation (binding_at (server_at f k) a) (Taken q (clock f k))) refl (le_refl _) 0 _ (v.lents k a hk ha) (v.opens k a hk ha)
+      (λ _. unpromised a ha (server_at f k).reserved (with_reservation (binding_at (server_at f k) a) (taken q (clock f k))) refl (le_refl _) Done _ (v.lents k a hk ha) (v.opens k a hk ha)
       (λ m x. rw (← posted_one (message k p q (Offer a)) m x) (tt, λ i a e c. c)))
-      (λ _. unchanged a ha (server_at f k).reserved 1)
+      (λ _. unchanged a ha (server_at f k).reserved Unmet)
 
   -- A grant to party p: k leads a, the lent end l is covered, and every promise of a to another client is over.
 
-  module _ (al : T (server_at f k).alive) (rs : List Reservation) (p q a t l : ℕ) (ha : a < f.config.addresses) (lead : T (leads_at (server_at f k) a))
+  module _ (al : T (server_at f k).alive) (rs : List (Option Reservation)) (p q a t l : ℕ) (ha : a < f.config.addresses) (lead : T (leads_at (server_at f k) a))
       (fits : (j : ℕ) → j < f.config.servers → l ≤ max (potlease_at (server_at f j) a) (f.time + f.config.skew + f.config.mclt))
       (over : (i e : ℕ) → Claim (world f) i a e → p ≢ client_party f.config i → e + f.config.skew < f.time) where
     new_record : ℕ
@@ -246,13 +247,13 @@ module _ (f : Facade) (g : Ranged f) (four : length f.servers ≡ 4) (one : OneL
       → Keeps (at_address (dropped f.config q (server_at f k)) a (on_request f.config k (clock f k) (binding_at (dropped f.config q (server_at f k)) a) p q a t))
   unfolding on_request dropped grantable
   keeps_request al p q a t ha =
-      let rs : List Reservation = reservations_by (freed_if_of q) f.config.addresses (server_at f k).reserved in
+      let rs : List (Option Reservation) = reservations_by (freed_if_of q) f.config.addresses (server_at f k).reserved in
       cond_case (λ x. Keeps (at_address (dropped f.config q (server_at f k)) a x)) (leads_at (server_at f k) a and has_passed f.config (clock f k) (potlease_at (server_at f k) a)) _ _
       (λ y. let past : potlease_at (server_at f k) a + expiry_slack f.config < clock f k = ltb→lt _ _ (and_r (leads_at (server_at f k) a) _ y) in
       keeps_grant al rs p q a t (clock f k + f.config.mclt) ha (and_l _ _ y)
       (λ j hj. omega (arith, high))
       (λ i e c _. omega (arith, high, (v.claims i a e ha c).led k hk al (and_l _ _ y))))
-      (λ _. unchanged a ha rs 1)
+      (λ _. unchanged a ha rs Unmet)
 
   pub keeps_renew : T (server_at f k).alive → (i q a e t : ℕ) → a < f.config.addresses → Claim (world f) i a e
       → Keeps (at_address (server_at f k) a (on_renew f.config k (clock f k) (binding_at (server_at f k) a) (client_party f.config i) q a e t))
@@ -263,7 +264,7 @@ module _ (f : Facade) (g : Ranged f) (four : length f.servers ≡ 4) (one : OneL
       keeps_grant al (server_at f k).reserved (client_party f.config i) q a t (max (clock f k + f.config.mclt) (lent_at (server_at f k) a)) ha (and_l _ _ y)
       (λ j hj. omega (arith, high, (v.lents k a hk ha).every j hj))
       (λ i' e' c ne. omega (arith, low, v.pair i a e i' e' ha claim c (λ x. ne (ap (client_party f.config) x)))))
-      (λ _. unchanged a ha (server_at f k).reserved 1)
+      (λ _. unchanged a ha (server_at f k).reserved Unmet)
 
   -- Write: the record rises, and the write ack may say so.
 
@@ -272,17 +273,17 @@ module _ (f : Facade) (g : Ranged f) (four : length f.servers ≡ 4) (one : OneL
   keeps_write p q a e ha =
       let b : Binding = with_lease (binding_at (server_at f k) a) (lent_at (server_at f k) a) (max (potlease_at (server_at f k) a) e) (write_at (server_at f k) a) in
       let more : potlease_at (server_at f k) a ≤ b.potlease = omega arith in
-      unpromised a ha (server_at f k).reserved b refl more 0 _ (v.lents k a hk ha) (v.opens k a hk ha)
+      unpromised a ha (server_at f k).reserved b refl more Done _ (v.lents k a hk ha) (v.opens k a hk ha)
       (λ m x. rw (← posted_one (message k p q (WriteAck a e)) m x) (omega (arith, lender_record a ha (server_at f k).reserved b refl more), λ i a e c. c))
 
   -- Write ack: it counts a server whose record has the end; when all are in, every record has it.
 
   -- the open write that an ack answers counts only servers whose record has its end
-  counted : (q e a : ℕ) (acked : List Bool) (o : Pending) → T (matches_write q e o) → CountOk (world f) a acked o
+  counted : (q e a : ℕ) (acked : List Bool) (o : Option Pending) → T (matches_write q e o) → CountOk (world f) a acked o
       → (j : ℕ) → j < f.config.servers → T (get_or acked j false) → e ≤ potlease_at (server_at f j) a
   unfolding matches_write
-  counted q e a acked Closed t c j hj x = absurd t
-  counted q e a acked (Open q' e') t c j hj x = let z = and_r _ _ t in omega (arith, c j hj x, eqb→eq)
+  counted q e a acked None t c j hj x = absurd t
+  counted q e a acked (Some w) t c j hj x = let z = and_r _ _ t in omega (arith, c j hj x, eqb→eq)
 
   module _ (p q a e : ℕ) (ha : a < f.config.addresses) (from : e ≤ potlease_at (server_at f p) a) where
     acked_now : List Bool
@@ -304,19 +305,19 @@ module _ (f : Facade) (g : Ranged f) (four : length f.servers ≡ 4) (one : OneL
 
     -- another lent end and open write for a, the record as it was
     rewritten : (l : ℕ) (o : OpenWrite) → Cov (world f) a l → OpenOk (world f) a o
-        → Keeps (at_address (server_at f k) a (binding_answer (with_lease (binding_at (server_at f k) a) l (potlease_at (server_at f k) a) o) 0 nothing))
+        → Keeps (at_address (server_at f k) a (answer (with_lease (binding_at (server_at f k) a) l (potlease_at (server_at f k) a) o) Done nothing))
     unfolding lender
-    rewritten l o cov opn = unpromised a ha (server_at f k).reserved (with_lease (binding_at (server_at f k) a) l (potlease_at (server_at f k) a) o) refl (le_refl _) 0 nothing cov opn
+    rewritten l o cov opn = unpromised a ha (server_at f k).reserved (with_lease (binding_at (server_at f k) a) l (potlease_at (server_at f k) a) o) refl (le_refl _) Done nothing cov opn
         (λ m y. posted_nothing m y)
 
     pub keeps_write_ack : Keeps (at_address (server_at f k) a (on_write_ack f.config (binding_at (server_at f k) a) p q e))
     unfolding on_write_ack acknowledged acked_now
     keeps_write_ack =
         cond_case (λ x. Keeps (at_address (server_at f k) a x)) (leads_at (server_at f k) a and matches_write q e (write_at (server_at f k) a).pending) _ _
-        (λ y. cond_case (λ b. Keeps (at_address (server_at f k) a (binding_answer b 0 nothing))) (all (λ j. get_or acked_now j false) f.config.servers) _ _
+        (λ y. cond_case (λ b. Keeps (at_address (server_at f k) a (answer b Done nothing))) (all (λ j. get_or acked_now j false) f.config.servers) _ _
         (λ full. rewritten _ closed (all_have (λ j hj. counted_now (and_r _ _ y) j hj (all_at (λ j. get_or acked_now j false) f.config.servers full j hj))) tt)
         (λ _. rewritten _ (opened q e acked_now) (v.lents k a hk ha) (counted_now (and_r _ _ y))))
-        (λ _. unchanged a ha (server_at f k).reserved 1)
+        (λ _. unchanged a ha (server_at f k).reserved Unmet)
 
   -- A message, by its body.
 
@@ -326,18 +327,18 @@ module _ (f : Facade) (g : Ranged f) (four : length f.servers ≡ 4) (one : OneL
     unfolding server_handles handled_at is_request address_for body_in_range is_client
     keeps_body Empty t cl ok = absurd t
     keeps_body Discover t cl ok = keeps_discover from q _ (address_low f.config (configured f.config g.config) from to _ _ _ _ Discover t)
-    keeps_body (Offer a) t cl ok = unchanged a (ltb→lt a _ (and_r _ _ (and_r _ _ t))) (server_at f k).reserved 1
+    keeps_body (Offer a) t cl ok = unchanged a (ltb→lt a _ (and_r _ _ (and_r _ _ t))) (server_at f k).reserved Unmet
     keeps_body (Request a w) t cl ok = keeps_request al from q a w (ltb→lt a _ (and_l _ _ (and_r _ _ (and_r _ _ t))))
     keeps_body (Renew a e w) t cl ok =
         let is : from ≡ client_party f.config (from - f.config.servers) = omega (arith, leb→le f.config.servers from (and_l _ _ (and_l _ _ t))) in
         rw is (keeps_renew al (from - f.config.servers) q a e w (ltb→lt a _ (and_l _ _ (and_r _ _ (and_r _ _ t)))) (cl (from - f.config.servers) a e (is, refl, refl)))
     keeps_body (Write a e) t cl ok = keeps_write from q a e (ltb→lt a _ (and_l _ _ (and_r _ _ (and_r _ _ t))))
     keeps_body (WriteAck a e) t cl ok = keeps_write_ack from q a e (ltb→lt a _ (and_l _ _ (and_r _ _ (and_r _ _ t)))) ok
-    keeps_body (Ack a e) t cl ok = unchanged a (ltb→lt a _ (and_l _ _ (and_r _ _ (and_r _ _ t)))) (server_at f k).reserved 1
+    keeps_body (Ack a e) t cl ok = unchanged a (ltb→lt a _ (and_l _ _ (and_r _ _ (and_r _ _ t)))) (server_at f k).reserved Unmet
 
   pub keeps_receive : (m : Message) → Waits f m → Keeps (server_receives f.config k (clock f k) (server_at f k) m)
   unfolding server_receives message_in_range
   keeps_receive m x =
       cond_case Keeps (server_at f k).alive _ _
       (λ al. keeps_body al m.sender m.receiver m.interaction m.body (and_r _ _ (g.message m x)) (λ i a e c. sent m x c) (v.acks m x))
-      (λ _. silent (server_at f k).reserved 2)
+      (λ _. silent (server_at f k).reserved Dead)

@@ -18,6 +18,7 @@ use Rattle.types.specs.declared.Facade.{Facade}
 use Rattle.rules.specs.Conditions.{is_within, all}
 use Rattle.rules.specs.Parts.{no_server, parties, server_at, state_at, message_at, offset_at, notice_at}
 use Rattle.types.specs.declared.Answer.{Answer}
+use Rattle.std.specs.Prelude.{Option}
 use Rattle.types.specs.declared.Config.{Config}
 use Rattle.rules.specs.Messages.{without_if}
 use Rattle.rules.specs.Views.{whole}
@@ -125,7 +126,7 @@ found_low : (n m : ℕ) (b : Bool) → 1 ≤ m → ltb n m ≡ b → cond b n 0 
 found_low n m true h e = ltb-true n m e
 found_low n m false h e = omega arith
 
-module _ (c : Config) (ok : Configured c) (from to r : ℕ) (leads : List Bool) (reserved : List Reservation) (records : List ℕ) where
+module _ (c : Config) (ok : Configured c) (from to r : ℕ) (leads : List Bool) (reserved : List (Option Reservation)) (records : List ℕ) where
   pub address_low : (x : Body) → T (body_in_range c from to x) → address_for c r leads reserved records x < c.addresses
   unfolding body_in_range address_for lowest_offerable
   address_low Empty t = absurd t

@@ -3,7 +3,7 @@ use mathlib.Core.Path.{◌≡◌, refl, ap, ◌∙◌}
 use mathlib.Core.Logic.{◌≢◌}
 use mathlib.Core.Bool.{Bool, true, false, not, cond}
 use mathlib.Core.List.{List}
-use Prim.Native.Nat.{ℕ, zero, suc, ◌+◌, ◌-◌, ◌≤◌, ◌<◌}
+use Prim.Native.Nat.{ℕ, zero, suc, ◌+◌, ◌≤◌, ◌<◌}
 use native.Mathlib.Numerals.{add-one}
 use native.Mathlib.Nat.{not-suc-le-zero}
 use native.Mathlib.Omega.{arith}
@@ -11,7 +11,7 @@ use native.Mathlib.Decide.{ℕ_discrete, dec_lt}
 use lib.Dec.{T, eqb, leb→le, eqb_refl}
 use lib.ListN.{length, get_or, set, replicate, length-set}
 use lib.Seq.{get_or-set_same, get_or-set_other, set_out}
-use Rattle.rules.specs.Conditions.{◌and◌, ◌or◌, is_within, unless, all, counted, lowest, filled}
+use Rattle.rules.specs.Conditions.{◌and◌, ◌or◌, is_within, unless, all, filled}
 
 pub data Or (A B : Type 0) : Type 0 where
   inl : A → Or A B
@@ -37,6 +37,25 @@ pub and_both : (a b : Bool) → T a → T b → T (a and b)
 unfolding ◌and◌
 and_both true b s t = t
 and_both false b s t = s
+
+-- what a test that the code makes in two gives: the second where the first holds, and else the first
+pub and_true : (a b : Bool) → a ≡ true → (a and b) ≡ b
+unfolding ◌and◌
+and_true a b e = rw e
+
+pub and_false : (a b : Bool) → a ≡ false → (a and b) ≡ false
+unfolding ◌and◌
+and_false a b e = rw e
+
+pub or_true : (a b : Bool) → a ≡ true → (a or b) ≡ true
+unfolding ◌or◌
+or_true a b e = rw e
+
+pub or_false : (a b : Bool) → a ≡ false → (a or b) ≡ b
+unfolding ◌or◌
+or_false a b e = rw e
+
+pub ruleset tests = (and_true, and_false, or_true, or_false)
 
 pub or_elim {ℓ} : {X : Type ℓ} (a b : Bool) → T (a or b) → (T a → X) → (T b → X) → X
 unfolding ◌or◌
@@ -93,7 +112,7 @@ unfolding all
 all_by p zero f = tt
 all_by p (suc n) f = and_both (p n) (all p n) (f n (omega arith)) (all_by p n (λ i h. f i (omega arith)))
 
--- One turn more of a loop that tests each number, and of a search.
+-- One turn more of a loop that tests each number.
 
 pub all_more : (p : ℕ → Bool) (n : ℕ) (x y z : Bool) → x ≡ p n → y ≡ all p n → z ≡ (x and y) → z ≡ all p (n + 1)
 unfolding all
@@ -101,36 +120,6 @@ all_more p n x y z e h q = rw add-one (rw (← e, ← h) q)
 
 pub all_done : (p : ℕ → Bool) (i n : ℕ) (ok : Bool) → i ≡ n → ok ≡ all p i → ok ≡ all p n
 all_done p i n ok h e = e ∙ ap (all p) h
-
-pub counted_more : (p : ℕ → Bool) (n x y : ℕ) (b : Bool) → b ≡ p n → x ≡ counted p n → y ≡ cond b (x + 1) x → y ≡ counted p (n + 1)
-unfolding counted
-counted_more p n x y b e h q = rw add-one (rw (← e, ← h) q)
-
-counted_go : (b : Bool) (x n : ℕ) → x ≤ n → cond b (x + 1) x ≤ suc n
-counted_go true x n h = omega arith
-counted_go false x n h = omega arith
-
-pub counted_high : (p : ℕ → Bool) (n : ℕ) → counted p n ≤ n
-unfolding counted
-counted_high p zero = omega arith
-counted_high p (suc n) = counted_go (p n) (counted p n) n (counted_high p n)
-
--- the search for the lowest number, at i of n
-module _ (p : ℕ → Bool) (i n : ℕ) where
-  one_more : i < n → n - i ≡ suc (n - (i + 1))
-  one_more h = omega arith
-
-  pub lowest_here : i < n → p i ≡ true → i ≡ lowest p i (n - i)
-  unfolding lowest
-  lowest_here h e = rw (one_more h, e)
-
-  pub lowest_on : i < n → p i ≡ false → lowest p i (n - i) ≡ lowest p (i + 1) (n - (i + 1))
-  unfolding lowest
-  lowest_on h e = rw (one_more h, e, add-one)
-
-  pub lowest_none : n ≤ i → lowest p i (n - i) ≡ i
-  unfolding lowest
-  lowest_none h = let e : n - i ≡ 0 = omega arith in rw e
 
 -- Lists.
 

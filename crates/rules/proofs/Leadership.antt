@@ -18,8 +18,7 @@ use Rattle.types.specs.declared.Body.{Body}
 use Rattle.types.specs.declared.Body.TheVariants.{Empty, Discover, Offer, Request, Renew, Write, WriteAck, Ack}
 use Rattle.types.specs.declared.Message.{Message}
 use Rattle.types.specs.declared.Facade.{Facade}
-use Rattle.types.specs.declared.ServerAnswer.{ServerAnswer}
-use Rattle.types.specs.declared.BindingAnswer.{BindingAnswer}
+use Rattle.types.specs.declared.Reaction.{Reaction}
 use Rattle.rules.specs.Conditions.{◌and◌, all}
 use Rattle.rules.specs.Clock.{clock_reading}
 use Rattle.rules.specs.Parts.{no_server, believes, leads_at, server_at, message_at, offset_at, clock, notice_at, parties, binding_at, with_life, with_leading, with_messages}
@@ -144,16 +143,16 @@ module _ (order : ℕ → ℕ → ℕ) (f : Facade) (o : Orders f.config order) 
 -- What a server does with a message leaves this part of it.
 
 module _ (c : Config) (k r : ℕ) (s : Server) where
-  abbrev SameCore : ServerAnswer → Type 0
-  SameCore x = core_of x.server ≡ core_of s
+  abbrev SameCore : Reaction Server → Type 0
+  SameCore x = core_of x.after ≡ core_of s
 
-  abbrev SameLead : Binding → BindingAnswer → Type 0
-  SameLead b x = x.binding.leads ≡ b.leads
+  abbrev SameLead : Binding → Reaction Binding → Type 0
+  SameLead b x = x.after.leads ≡ b.leads
 
   core_at : (a : ℕ) (l : Bool) → l ≡ leads_at s a → core_of (with_leading s s.believed (set s.leads a l) s.potlease) ≡ core_of s
   core_at a l e = rw (e, set-get_or s.leads a false)
 
-  lead_at_lem : (b : Binding) (p q a : ℕ) (x : Body) → (handled_at c k r b p q a x).binding.leads ≡ b.leads
+  lead_at_lem : (b : Binding) (p q a : ℕ) (x : Body) → (handled_at c k r b p q a x).after.leads ≡ b.leads
   unfolding handled_at on_discover offered on_request granted on_renew on_write on_write_ack acknowledged
   lead_at_lem b p q a Empty = refl
   lead_at_lem b p q a Discover = cond_case (SameLead b) (offerable c r b) _ _ (λ _. refl) (λ _. refl)
@@ -294,7 +293,7 @@ module _ (order : ℕ → ℕ → ℕ) (f : Facade) (g : Ranged f) (v : Led orde
       let h : i < f.config.servers = ltb→lt i _ w.names in
       let own : (j : ℕ) → j < f.config.servers → get_or (row_now f.notices i f.time) (i * 4 + j) 0 ≡ f.time =
       λ j hj. row_own f.notices i j f.time v.notices (omega (arith, ok.servers_high)) (omega (arith, ok.servers_high)) in
-      replaced i (with_life (after_return (clock f i) (server_at f i)).server true f.time) (row_now f.notices i f.time) (record {
+      replaced i (with_life (after_return (clock f i) (server_at f i)).after true f.time) (row_now f.notices i f.time) (record {
         exists_i = h;
         believed = refl;
         leads = refl;

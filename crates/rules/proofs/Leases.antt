@@ -9,9 +9,9 @@ use native.Mathlib.Omega.{arith}
 use lib.Dec.{T}
 use lib.ListN.{length, get_or, set}
 use lib.IntN.{ℤ, pos}
+use Rattle.std.specs.Prelude.{Option, Some, None}
 use Rattle.types.specs.declared.Config.{Config}
 use Rattle.types.specs.declared.Pending.{Pending}
-use Rattle.types.specs.declared.Pending.TheVariants.{Closed, Open}
 use Rattle.types.specs.declared.OpenWrite.{OpenWrite}
 use Rattle.types.specs.declared.Server.{Server}
 use Rattle.types.specs.declared.State.{State}
@@ -76,9 +76,9 @@ pub data Claim (w : World) (i a e : ℕ) : Type 0 where
   sent : (m : Message) → w.out m → Promises w.config m i a e → Claim w i a e
 
 -- an open write counts only servers whose record has its end
-abbrev pub CountOk : World → ℕ → List Bool → Pending → Type 0
-CountOk w a acked Closed = Unit {0}
-CountOk w a acked (Open q v) = (j : ℕ) → j < w.config.servers → T (get_or acked j false) → v ≤ potlease_at (srv w j) a
+abbrev pub CountOk : World → ℕ → List Bool → Option Pending → Type 0
+CountOk w a acked None = Unit {0}
+CountOk w a acked (Some x) = (j : ℕ) → j < w.config.servers → T (get_or acked j false) → x.end ≤ potlease_at (srv w j) a
 
 abbrev pub OpenOk : World → ℕ → OpenWrite → Type 0
 OpenOk w a o = CountOk w a o.acked o.pending
@@ -123,9 +123,9 @@ module _ (w w' : World) (x : Grows w w') where
     every = λ j h. omega (arith, c.every j (here j h), x.records j a, x.later, ap (λ c. c.skew) x.same, ap (λ c. c.mclt) x.same);
   }
 
-  pub count_grows : (a : ℕ) (acked : List Bool) (o : Pending) → CountOk w a acked o → CountOk w' a acked o
-  count_grows a acked Closed p = tt
-  count_grows a acked (Open q v) p = λ j h t. omega (arith, p j (here j h) t, x.records j a)
+  pub count_grows : (a : ℕ) (acked : List Bool) (o : Option Pending) → CountOk w a acked o → CountOk w' a acked o
+  count_grows a acked None p = tt
+  count_grows a acked (Some w) p = λ j h t. omega (arith, p j (here j h) t, x.records j a)
 
   pub body_grows : (from : ℕ) (b : Body) → BodyOk w from b → BodyOk w' from b
   body_grows from Empty p = tt

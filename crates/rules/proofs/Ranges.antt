@@ -10,12 +10,10 @@ use native.Mathlib.Omega.{arith}
 use lib.Dec.{T, leb, ltb, eqb, leb→le, le→leb, ltb→lt, lt→ltb, eqb→eq}
 use lib.ListN.{length, get_or, set, replicate, length-replicate}
 use lib.IntN.{ℤ, pos, ◌+ℤ◌}
+use Rattle.std.specs.Prelude.{Option, Some, None}
 use Rattle.types.specs.declared.Config.{Config}
-use Rattle.types.specs.declared.Reserved.{Reserved}
-use Rattle.types.specs.declared.Reserved.TheVariants.{Free, Taken}
 use Rattle.types.specs.declared.Reservation.{Reservation}
 use Rattle.types.specs.declared.Pending.{Pending}
-use Rattle.types.specs.declared.Pending.TheVariants.{Closed, Open}
 use Rattle.types.specs.declared.OpenWrite.{OpenWrite}
 use Rattle.types.specs.declared.Server.{Server}
 use Rattle.types.specs.declared.Binding.{Binding}
@@ -29,15 +27,16 @@ use Rattle.types.specs.declared.Outbox.{Outbox}
 use Rattle.types.specs.declared.Facade.{Facade}
 use Rattle.types.specs.declared.Step.{Step}
 use Rattle.types.specs.declared.Answer.{Answer}
-use Rattle.types.specs.declared.ServerAnswer.{ServerAnswer}
-use Rattle.types.specs.declared.BindingAnswer.{BindingAnswer}
-use Rattle.types.specs.declared.ClientAnswer.{ClientAnswer}
+use Rattle.types.specs.declared.Outcome.{Outcome}
+use Rattle.types.specs.declared.Outcome.TheVariants.{Done, Unmet, Dead}
+use Rattle.types.specs.declared.Reaction.{Reaction}
+use Rattle.types.specs.Numbers.{outcome_number}
 use Rattle.rules.specs.Conditions.{◌and◌, unless, all}
-use Rattle.rules.specs.Parts.{no_server, no_reservation, no_write, no_client, no_message, reserved_at, lent_at, potlease_at, write_at, leads_at, binding_at, with_life, with_leading, with_reserved, with_binding, message, client_party, parties, server_at, state_at, message_at, offset_at, clock, with_server, with_notices, with_clients, with_client, with_time, with_next}
+use Rattle.rules.specs.Parts.{no_server, no_write, no_client, no_message, reserved_at, lent_at, potlease_at, write_at, leads_at, binding_at, with_life, with_leading, with_reserved, with_binding, message, client_party, parties, server_at, state_at, message_at, offset_at, clock, with_server, with_notices, with_clients, with_client, with_time, with_next}
 use Rattle.rules.specs.Ranges.{config_in_range, interaction_in_range, offset_in_range, reservation_in_range, write_in_range, address_in_range, server_in_range, state_in_range, is_server, is_client, body_in_range, message_in_range, in_range, end_in_range, reading_in_range, last_time, last_interaction, most_waiting, Sound}
 use Rattle.types.specs.declared.Deed.{Deed}
-use Rattle.rules.specs.Messages.{nothing, post, send_all, without}
-use Rattle.rules.specs.Server.{answer, binding_answer, at_address, closed, lead_record, leads_after, record_after, leading_with, noticed, after_return, reservations_by, freed_if_old, cleaned, offerable, offered, on_discover, address_for, address_of, handled_at, is_request, granted, freed_if_of, dropped, grantable, on_request, on_renew, on_write, matches_write, acknowledged, on_write_ack, server_handles, server_receives}
+use Rattle.rules.specs.Messages.{answer, nothing, post, send_all, without}
+use Rattle.rules.specs.Server.{at_address, closed, lead_record, leads_after, record_after, leading_with, noticed, after_return, reservations_by, freed_if_old, cleaned, offerable, offered, on_discover, address_for, address_of, handled_at, is_request, granted, freed_if_of, dropped, grantable, on_request, on_renew, on_write, matches_write, acknowledged, on_write_ack, server_handles, server_receives}
 use Rattle.rules.specs.Client.{is_holding, reply, broadcast, lapsed, discovers, requests, renews, asks_with, on_offer, expects, on_ack, client_handles}
 use Rattle.rules.specs.Steps.{fresh_server, fresh, Action, pass, fail, return, notice, discover, request, renew, deliver, lose, cleanup, unknown, action_of, fields_in_range, exists, of_pass, time_left, clock_allows, interaction_left, accepted, server_acts, client_acts, lapse, row_now, delivered, deed_of, takes_out, position, taken_out, enacted, server_after, notices_after, client_after, next_after, effect, broken, refusal, answer_to, step, run, malformed, holds_ended, barred, lapsed_at}
 use Rattle.rules.proofs.Laws.{Or, inl, inr, and_l, and_r, and_both, cond_case, all_at, all_by, set_any, rep_ind, filled_any}
@@ -55,15 +54,15 @@ module _ (n n' : ℕ) (h : n ≤ n') where
   unfolding interaction_in_range
   used_later q x = and_both (leb 1 q) (ltb q n') (and_l _ _ x) (lt→ltb q n' (omega (arith, ltb→lt q n (and_r _ _ x))))
 
-  reserved_later : (x : Reserved) → T (reservation_in_range n x) → T (reservation_in_range n' x)
+  reserved_later : (x : Option Reservation) → T (reservation_in_range n x) → T (reservation_in_range n' x)
   unfolding reservation_in_range
-  reserved_later Free x = x
-  reserved_later (Taken q r) x = and_both _ _ (used_later q (and_l _ _ x)) (and_r _ _ x)
+  reserved_later None x = x
+  reserved_later (Some w) x = and_both _ _ (used_later w.interaction (and_l _ _ x)) (and_r _ _ x)
 
-  write_later : (x : Pending) → T (write_in_range n x) → T (write_in_range n' x)
+  write_later : (x : Option Pending) → T (write_in_range n x) → T (write_in_range n' x)
   unfolding write_in_range
-  write_later Closed x = x
-  write_later (Open q v) x = and_both _ _ (used_later q (and_l _ _ x)) (and_r _ _ x)
+  write_later None x = x
+  write_later (Some w) x = and_both _ _ (used_later w.interaction (and_l _ _ x)) (and_r _ _ x)
 
   state_later : (c : Config) (x : State) → T (state_in_range c n x) → T (state_in_range c n' x)
   unfolding state_in_range
@@ -79,8 +78,8 @@ module _ (n n' : ℕ) (h : n ≤ n') where
 
 -- A server in range: the same as the test, part by part. In each, address a is below A.
 
-abbrev Reservations : Config → ℕ → List Reservation → Type 0
-Reservations c n rs = (a : ℕ) → a < c.addresses → T (reservation_in_range n (get_or rs a no_reservation).state)
+abbrev Reservations : Config → ℕ → List (Option Reservation) → Type 0
+Reservations c n rs = (a : ℕ) → a < c.addresses → T (reservation_in_range n (get_or rs a None))
 
 abbrev Ends : Config → List ℕ → Type 0
 Ends c es = (a : ℕ) → a < c.addresses → T (end_in_range (get_or es a 0))
@@ -141,12 +140,12 @@ record Bound (n : ℕ) (b : Binding) : Type 0 where
   potlease : T (end_in_range b.potlease)
   write : T (write_in_range n b.write.pending)
 
-record BindingFits (c : Config) (n : ℕ) (x : BindingAnswer) : Type 0 where
-  binding : Bound n x.binding
+record BindingFits (c : Config) (n : ℕ) (x : Reaction Binding) : Type 0 where
+  binding : Bound n x.after
   sends : Sends c n x.outbox
 
-record ServerFits (c : Config) (t n : ℕ) (x : ServerAnswer) : Type 0 where
-  server : Stored c t n x.server
+record ServerFits (c : Config) (t n : ℕ) (x : Reaction Server) : Type 0 where
+  server : Stored c t n x.after
   sends : Sends c n x.outbox
 
 in_message : (c : Config) (n p k q : ℕ) (b : Body) → T (interaction_in_range n q) → T (body_in_range c p k b) → T (message_in_range c n (message p k q b))
@@ -160,12 +159,12 @@ module _ (c : Config) (t n : ℕ) where
 
   -- nothing reserved, lent or open: a server that is fresh or has returned, and with w = 0 one that does not exist
   cleared : (w x r : ℕ) (al : Bool) (b l : List Bool) (ps : List ℕ) → T (leb x t) → T (reading_in_range r) → Ends c ps
-      → Stored c t n (record { alive = al; changed = x; returned = r; believed = b; leads = l; reserved = replicate w no_reservation; lent = replicate w 0; potlease = ps; writes = replicate w closed })
+      → Stored c t n (record { alive = al; changed = x; returned = r; believed = b; leads = l; reserved = replicate w None; lent = replicate w 0; potlease = ps; writes = replicate w closed })
   unfolding reservation_in_range write_in_range
   cleared w x r al b l ps h h' hp = record {
     changed = h;
     returned = h';
-    reserved = λ a _. rep_ind (λ y. T (reservation_in_range n y.state)) w no_reservation no_reservation a tt tt;
+    reserved = λ a _. rep_ind (λ y. T (reservation_in_range n y)) w None None a tt tt;
     lent = λ a _. rep_ind (λ y. T (end_in_range y)) w 0 0 a tt tt;
     records = hp;
     writes = λ a _. rep_ind (λ y. T (write_in_range n y.pending)) w closed no_write a tt tt;
@@ -173,7 +172,7 @@ module _ (c : Config) (t n : ℕ) where
 
   -- a part of a server replaced
   module _ (s : Server) (v : Stored c t n s) where
-    with_reserved_lem : (rs : List Reservation) → Reservations c n rs → Stored c t n (with_reserved s rs)
+    with_reserved_lem : (rs : List (Option Reservation)) → Reservations c n rs → Stored c t n (with_reserved s rs)
     with_reserved_lem rs h = record { changed = v.changed; returned = v.returned; reserved = h; lent = v.lent; records = v.records; writes = v.writes }
 
     with_records : (b ls : List Bool) (ps : List ℕ) → Ends c ps → Stored c t n (with_leading s b ls ps)
@@ -183,7 +182,7 @@ module _ (c : Config) (t n : ℕ) where
     with_binding_lem a b h = record {
       changed = v.changed;
       returned = v.returned;
-      reserved = λ a' h'. set_any (λ y. T (reservation_in_range n y.state)) s.reserved a _ no_reservation a' (λ _. h.reserved) (v.reserved a' h');
+      reserved = λ a' h'. set_any (λ y. T (reservation_in_range n y)) s.reserved a _ None a' (λ _. h.reserved) (v.reserved a' h');
       lent = set_end s.lent a b.lent v.lent h.lent;
       records = set_end s.potlease a b.potlease v.records h.potlease;
       writes = λ a' h'. set_any (λ y. T (write_in_range n y.pending)) s.writes a _ no_write a' (λ _. h.write) (v.writes a' h');
@@ -192,24 +191,24 @@ module _ (c : Config) (t n : ℕ) where
     binding_at_lem : (a : ℕ) → a < c.addresses → Bound n (binding_at s a)
     binding_at_lem a h = record { reserved = v.reserved a h; lent = v.lent a h; potlease = v.records a h; write = v.writes a h }
 
-    at_address_lem : (a : ℕ) (x : BindingAnswer) → BindingFits c n x → ServerFits c t n (at_address s a x)
-    at_address_lem a x h = record { server = with_binding_lem a x.binding h.binding; sends = h.sends }
+    at_address_lem : (a : ℕ) (x : Reaction Binding) → BindingFits c n x → ServerFits c t n (at_address s a x)
+    at_address_lem a x h = record { server = with_binding_lem a x.after h.binding; sends = h.sends }
 
     -- some reservations dropped: g keeps or drops one as b says
-    fewer : (g : Reserved → Reserved) (b : ℕ → ℕ → Bool) → g Free ≡ Free → ((q r : ℕ) → g (Taken q r) ≡ cond (b q r) Free (Taken q r))
+    fewer : (g : Option Reservation → Option Reservation) (b : Reservation → Bool) → g None ≡ None → ((w : Reservation) → g (Some w) ≡ cond (b w) None (Some w))
         → Stored c t n (with_reserved s (reservations_by g c.addresses s.reserved))
     unfolding reservation_in_range
-    fewer g b at-free at-taken = with_reserved_lem _ (λ a h. filled_any (λ x. T (reservation_in_range n x.state)) _ c.addresses s.reserved no_reservation a
+    fewer g b at-free at-taken = with_reserved_lem _ (λ a h. filled_any (λ x. T (reservation_in_range n x)) _ c.addresses s.reserved None a
         (λ _. go (reserved_at s a) (v.reserved a h)) (v.reserved a h))
       where
-        go : (x : Reserved) → T (reservation_in_range n x) → T (reservation_in_range n (g x))
-        go Free h = rw at-free h
-        go (Taken q r) h = rw (at-taken q r) (cond_case (λ x. T (reservation_in_range n x)) (b q r) Free (Taken q r) (λ _. tt) (λ _. h))
+        go : (x : Option Reservation) → T (reservation_in_range n x) → T (reservation_in_range n (g x))
+        go None h = rw at-free h
+        go (Some w) h = rw (at-taken w) (cond_case (λ x. T (reservation_in_range n x)) (b w) None (Some w) (λ _. tt) (λ _. h))
 
-    silent : (x : ℕ) → ServerFits c t n (answer s x nothing)
+    silent : (x : Outcome) → ServerFits c t n (answer s x nothing)
     silent x = record { server = v; sends = λ m y. posted_nothing m y }
 
-  silent_at : (b : Binding) → Bound n b → (x : ℕ) → BindingFits c n (binding_answer b x nothing)
+  silent_at : (b : Binding) → Bound n b → (x : Outcome) → BindingFits c n (answer b x nothing)
   silent_at b h x = record { binding = h; sends = λ m y. posted_nothing m y }
 
   -- server k has the clock reading r
@@ -220,11 +219,11 @@ module _ (c : Config) (t n : ℕ) where
         let b : List Bool = set s.believed j (eqb says 1) in
         silent _ (with_records s v _ _ _ (λ a h. let old = v.records a h in
         filled_any (λ x. T (end_in_range x)) _ c.addresses s.potlease 0 a
-        (λ _. cond_case (λ x. T (end_in_range x)) (leads_after c k r s b a and not (leads_at s a)) (max (potlease_at s a) (lead_record c r)) (potlease_at s a) (λ _. omega bounds) (λ _. old)) old)) 0
+        (λ _. cond_case (λ x. T (end_in_range x)) (leads_after c k r s b a and not (leads_at s a)) (max (potlease_at s a) (lead_record c r)) (potlease_at s a) (λ _. omega bounds) (λ _. old)) old)) Done
 
     cleaned_fits : (s : Server) → Stored c t n s → ServerFits c t n (cleaned c r s)
     unfolding cleaned freed_if_old
-    cleaned_fits s v = silent _ (fewer s v (freed_if_old c r) (λ q r'. ltb (r' + c.retention) r) refl (λ q r'. refl)) 0
+    cleaned_fits s v = silent _ (fewer s v (freed_if_old c r) (λ w. ltb (w.reading + c.retention) r) refl (λ w. refl)) Done
 
     -- a message in interaction q
     module _ (q : ℕ) (u : T (interaction_in_range n q)) where
@@ -256,17 +255,17 @@ module _ (c : Config) (t n : ℕ) where
             binding = record { reserved = and_both _ _ u hr; lent = b.lent; potlease = b.potlease; write = b.write };
             sends = sends_one p (Offer _) (and_both _ _ hk (and_both _ _ (and_l _ _ x) (lt→ltb _ _ ha)));
           })
-          (λ _. silent_at _ b 1))
+          (λ _. silent_at _ b Unmet))
       handles_fit s v p (Request a w) x =
           let y = and_r _ _ (and_r _ _ x) in
-          let v' : Stored c t n (dropped c q s) = fewer s v (freed_if_of q) (λ q' r'. eqb q' q) refl (λ q' r'. refl) in
+          let v' : Stored c t n (dropped c q s) = fewer s v (freed_if_of q) (λ w. eqb w.interaction q) refl (λ w. refl) in
           let b = binding_at_lem (dropped c q s) v' a (ltb→lt _ _ (and_l _ _ y)) in
           at_address_lem (dropped c q s) v' a _ (cond_case (BindingFits c n) (grantable c r (binding_at (dropped c q s) a)) _ _
-          (λ _. granted_fits _ b p (and_l _ _ x) a w (r + c.mclt) (and_l _ _ y) (and_r _ _ y) (omega bounds)) (λ _. silent_at _ b 1))
+          (λ _. granted_fits _ b p (and_l _ _ x) a w (r + c.mclt) (and_l _ _ y) (and_r _ _ y) (omega bounds)) (λ _. silent_at _ b Unmet))
       handles_fit s v p (Renew a e w) x =
           let y = and_r _ _ (and_r _ _ x) in let b = binding_at_lem s v a (ltb→lt _ _ (and_l _ _ y)) in
           at_address_lem s v a _ (cond_case (BindingFits c n) (leads_at s a and leb r e) _ _
-          (λ _. granted_fits _ b p (and_l _ _ x) a w (max (r + c.mclt) (lent_at s a)) (and_l _ _ y) (and_r _ _ (and_r _ _ y)) (omega bounds)) (λ _. silent_at _ b 1))
+          (λ _. granted_fits _ b p (and_l _ _ x) a w (max (r + c.mclt) (lent_at s a)) (and_l _ _ y) (and_r _ _ (and_r _ _ y)) (omega bounds)) (λ _. silent_at _ b Unmet))
       handles_fit s v p (Write a e) x =
           let y = and_r _ _ (and_r _ _ x) in let b = binding_at_lem s v a (ltb→lt _ _ (and_l _ _ y)) in let he : T (end_in_range e) = and_r _ _ y in
           at_address_lem s v a _ (record {
@@ -278,16 +277,16 @@ module _ (c : Config) (t n : ℕ) where
           at_address_lem s v a _ (cond_case (BindingFits c n) (leads_at s a and matches_write q e (write_at s a).pending) _ _
           (λ _. silent_at _ (cond_case (Bound n) (all (λ j. get_or (set (write_at s a).acked p true) j false) c.servers) _ _
           (λ _. record { reserved = b.reserved; lent = omega bounds; potlease = b.potlease; write = tt })
-          (λ _. record { reserved = b.reserved; lent = b.lent; potlease = b.potlease; write = and_both _ _ u he })) 0)
-          (λ _. silent_at _ b 1))
+          (λ _. record { reserved = b.reserved; lent = b.lent; potlease = b.potlease; write = and_both _ _ u he })) Done)
+          (λ _. silent_at _ b Unmet))
       handles_fit s v p Empty x = absurd x
-      handles_fit s v p (Offer a) x = at_address_lem s v a _ (silent_at _ (binding_at_lem s v a (ltb→lt a _ (and_r _ _ (and_r _ _ x)))) 1)
-      handles_fit s v p (Ack a e) x = at_address_lem s v a _ (silent_at _ (binding_at_lem s v a (ltb→lt a _ (and_l _ _ (and_r _ _ (and_r _ _ x))))) 1)
+      handles_fit s v p (Offer a) x = at_address_lem s v a _ (silent_at _ (binding_at_lem s v a (ltb→lt a _ (and_r _ _ (and_r _ _ x)))) Unmet)
+      handles_fit s v p (Ack a e) x = at_address_lem s v a _ (silent_at _ (binding_at_lem s v a (ltb→lt a _ (and_l _ _ (and_r _ _ (and_r _ _ x))))) Unmet)
 
 -- What a client does: client i, in state x.
 
-record ClientFits (c : Config) (n i : ℕ) (x : ClientAnswer) : Type 0 where
-  state : i < c.clients → T (state_in_range c n x.client.state)
+record ClientFits (c : Config) (n i : ℕ) (x : Reaction Client) : Type 0 where
+  state : i < c.clients → T (state_in_range c n x.after.state)
   sends : Sends c n x.outbox
 
 module _ (c : Config) (n i : ℕ) where
@@ -299,23 +298,23 @@ module _ (c : Config) (n i : ℕ) where
   lapsed_in_range r (Waiting q a) h = h
   lapsed_in_range r (Holding a e q) h = cond_case (λ x. T (state_in_range c n x)) (ltb r e) (Holding a e q) Idle (λ _. h) (λ _. tt)
 
-  replies : (x : State) (o : ℕ) → (i < c.clients → T (state_in_range c n x)) → ClientFits c n i (reply x o nothing)
+  replies : (x : State) (o : Outcome) → (i < c.clients → T (state_in_range c n x)) → ClientFits c n i (reply x o nothing)
   replies x o h = record { state = h; sends = λ m y. posted_nothing m y }
 
   client_fits_lem : (r : ℕ) (x : State) → (i < c.clients → T (state_in_range c n x)) → (p k q : ℕ) → T (interaction_in_range n q) → (b : Body) → T (body_in_range c p k b)
       → ClientFits c n i (client_handles r x q b)
   unfolding client_handles body_in_range on_offer on_ack state_in_range
-  client_fits_lem r x old p k q u Empty h = replies x 1 old
-  client_fits_lem r x old p k q u Discover h = replies x 1 old
+  client_fits_lem r x old p k q u Empty h = replies x Unmet old
+  client_fits_lem r x old p k q u Discover h = replies x Unmet old
   client_fits_lem r x old p k q u (Offer a) h =
-      cond_case (ClientFits c n i) (asks_with x q) _ _ (λ _. replies (Offered q a) 0 (λ _. and_both _ _ u (and_r _ _ (and_r _ _ h)))) (λ _. replies x 1 old)
-  client_fits_lem r x old p k q u (Request a t) h = replies x 1 old
-  client_fits_lem r x old p k q u (Renew a e t) h = replies x 1 old
-  client_fits_lem r x old p k q u (Write a v) h = replies x 1 old
-  client_fits_lem r x old p k q u (WriteAck a v) h = replies x 1 old
+      cond_case (ClientFits c n i) (asks_with x q) _ _ (λ _. replies (Offered q a) Done (λ _. and_both _ _ u (and_r _ _ (and_r _ _ h)))) (λ _. replies x Unmet old)
+  client_fits_lem r x old p k q u (Request a t) h = replies x Unmet old
+  client_fits_lem r x old p k q u (Renew a e t) h = replies x Unmet old
+  client_fits_lem r x old p k q u (Write a v) h = replies x Unmet old
+  client_fits_lem r x old p k q u (WriteAck a v) h = replies x Unmet old
   client_fits_lem r x old p k q u (Ack a e) h = let y = and_r _ _ (and_r _ _ h) in
       cond_case (ClientFits c n i) (expects x q a and ltb r e) _ _
-      (λ _. replies (Holding a e q) 0 (λ _. and_both _ _ (and_l _ _ y) (and_both _ _ (and_r _ _ y) u))) (λ _. replies x 1 old)
+      (λ _. replies (Holding a e q) Done (λ _. and_both _ _ (and_l _ _ y) (and_both _ _ (and_r _ _ y) u))) (λ _. replies x Unmet old)
 
   -- its own steps
   module _ (g : Configured c) (hi : T (ltb i c.clients)) where
@@ -324,7 +323,7 @@ module _ (c : Config) (n i : ℕ) where
     is_client_lem = and_both (leb c.servers (client_party c i)) _ (omega bounds) (lt→ltb (client_party c i) (parties c) (omega bounds))
 
     broadcasts : (x : State) (q : ℕ) (b : Body) → T (state_in_range c n x) → T (interaction_in_range n q)
-        → ((j : ℕ) → T (is_server c j) → T (body_in_range c (client_party c i) j b)) → ClientFits c n i (reply x 0 (broadcast c i q b))
+        → ((j : ℕ) → T (is_server c j) → T (body_in_range c (client_party c i) j b)) → ClientFits c n i (reply x Done (broadcast c i q b))
     broadcasts x q b h u body = record { state = λ _. h; sends = λ m y. go m (posted_each _ c.servers g.servers_high m y) }
       where
         go : (m : Message) → ToServer (λ j. message (client_party c i) j q b) c.servers m → T (message_in_range c n m)
@@ -333,23 +332,23 @@ module _ (c : Config) (n i : ℕ) where
     discovers_fit : (x : State) (q : ℕ) → T (state_in_range c n x) → T (interaction_in_range n q) → ClientFits c n i (discovers c i x q)
     unfolding discovers state_in_range body_in_range
     discovers_fit x q h u = cond_case (ClientFits c n i) (is_holding x) _ _
-        (λ _. replies x 1 (λ _. h)) (λ _. broadcasts (Asking q) q Discover u u (λ j b. and_both _ _ is_client_lem b))
+        (λ _. replies x Unmet (λ _. h)) (λ _. broadcasts (Asking q) q Discover u u (λ j b. and_both _ _ is_client_lem b))
 
     requests_fit : (x : State) (t : ℕ) → T (state_in_range c n x) → T (end_in_range t) → ClientFits c n i (requests c i x t)
     unfolding requests state_in_range body_in_range
-    requests_fit Idle t h ht = replies Idle 1 (λ _. h)
-    requests_fit (Asking q) t h ht = replies (Asking q) 1 (λ _. h)
+    requests_fit Idle t h ht = replies Idle Unmet (λ _. h)
+    requests_fit (Asking q) t h ht = replies (Asking q) Unmet (λ _. h)
     requests_fit (Offered q a) t h ht =
         broadcasts (Waiting q a) q (Request a t) h (and_l _ _ h) (λ j b. and_both _ _ is_client_lem (and_both _ _ b (and_both _ _ (and_r _ _ h) ht)))
-    requests_fit (Waiting q a) t h ht = replies (Waiting q a) 1 (λ _. h)
-    requests_fit (Holding a e q) t h ht = replies (Holding a e q) 1 (λ _. h)
+    requests_fit (Waiting q a) t h ht = replies (Waiting q a) Unmet (λ _. h)
+    requests_fit (Holding a e q) t h ht = replies (Holding a e q) Unmet (λ _. h)
 
     renews_fit : (x : State) (t q : ℕ) → T (state_in_range c n x) → T (end_in_range t) → T (interaction_in_range n q) → ClientFits c n i (renews c i x t q)
     unfolding renews state_in_range body_in_range
-    renews_fit Idle t q h ht u = replies Idle 1 (λ _. h)
-    renews_fit (Asking q') t q h ht u = replies (Asking q') 1 (λ _. h)
-    renews_fit (Offered q' a) t q h ht u = replies (Offered q' a) 1 (λ _. h)
-    renews_fit (Waiting q' a) t q h ht u = replies (Waiting q' a) 1 (λ _. h)
+    renews_fit Idle t q h ht u = replies Idle Unmet (λ _. h)
+    renews_fit (Asking q') t q h ht u = replies (Asking q') Unmet (λ _. h)
+    renews_fit (Offered q' a) t q h ht u = replies (Offered q' a) Unmet (λ _. h)
+    renews_fit (Waiting q' a) t q h ht u = replies (Waiting q' a) Unmet (λ _. h)
     renews_fit (Holding a e q') t q h ht u =
         let he = and_l _ _ (and_r _ _ h) in
         broadcasts (Holding a e q) q (Renew a e t) (and_both _ _ (and_l _ _ h) (and_both _ _ he u)) u
@@ -433,15 +432,15 @@ module _ (f : Facade) (v : Ranged f) where
 
 -- the parties act
 module _ (f : Facade) (v : Ranged f) (l : length f.messages ≡ 128) where
-  server_acts_lem : (k : ℕ) (x : ServerAnswer) (ts : List ℕ) → ServerFits f.config f.time f.next x → Heard f ts
+  server_acts_lem : (k : ℕ) (x : Reaction Server) (ts : List ℕ) → ServerFits f.config f.time f.next x → Heard f ts
       → f.waiting + x.outbox.count ≤ most_waiting → Good (server_acts (with_notices f ts) k x)
   server_acts_lem k x ts fits heard room =
-      good_sent (with_server (with_notices f ts) k x.server) (with_server_lem f v k x.server ts fits.server heard) l x.outbox x.outcome room fits.sends
+      good_sent (with_server (with_notices f ts) k x.after) (with_server_lem f v k x.after ts fits.server heard) l x.outbox (outcome_number x.outcome) room fits.sends
 
-  client_acts_lem : (i : ℕ) (x : ClientAnswer) → ClientFits f.config f.next i x → f.waiting + x.outbox.count ≤ most_waiting → Good (client_acts f i x)
-  client_acts_lem i x fits room = good_sent (with_client f i x.client)
-      (with_clients_lem f v _ (λ j h. set_any (λ y. T (state_in_range f.config f.next y.state)) f.clients i x.client no_client j (λ e. fits.state (omega arith)) (v.client j h)))
-      l x.outbox x.outcome room fits.sends
+  client_acts_lem : (i : ℕ) (x : Reaction Client) → ClientFits f.config f.next i x → f.waiting + x.outbox.count ≤ most_waiting → Good (client_acts f i x)
+  client_acts_lem i x fits room = good_sent (with_client f i x.after)
+      (with_clients_lem f v _ (λ j h. set_any (λ y. T (state_in_range f.config f.next y.state)) f.clients i x.after no_client j (λ e. fits.state (omega arith)) (v.client j h)))
+      l x.outbox (outcome_number x.outcome) room fits.sends
 
   good_handled : (m : Message) → T (message_in_range f.config f.next m) → (handled f m).facade.waiting ≤ most_waiting → Good (handled f m)
   unfolding delivered enacted server_after notices_after client_after next_after server_receives message_in_range
@@ -452,7 +451,7 @@ module _ (f : Facade) (v : Ranged f) (l : length f.messages ≡ 128) where
       (λ h. server_acts_lem k _ f.notices
       (cond_case (ServerFits f.config f.time f.next) (server_at f k).alive _ _
       (λ _. handles_fit f.config f.time f.next (sized f v) k (clock f k) h (reads f v k h) m.interaction (and_l _ _ x) (server_at f k) (stored_at f v k h) m.sender m.body (and_r _ _ x))
-      (λ _. silent f.config f.time f.next (server_at f k) (stored_at f v k h) 2))
+      (λ _. silent f.config f.time f.next (server_at f k) (stored_at f v k h) Dead))
       v.notice)
       (λ _. client_acts_lem i _ (client_fits_lem f.config f.next i (clock f (client_party f.config i)) (state_at f i) (v.client i) m.sender k m.interaction (and_l _ _ x) m.body (and_r _ _ x)))
 
@@ -505,10 +504,10 @@ module _ (f : Facade) (l : length f.messages ≡ 128) (v : Ranged f) where
       let s = stored_at f v k x.names in
       let s' : Stored f.config f.time f.next (with_life (server_at f k) false f.time) =
       record { changed = le→leb _ _ (le_refl f.time); returned = s.returned; reserved = s.reserved; lent = s.lent; records = s.records; writes = s.writes } in
-      server_acts_lem f v l k _ f.notices (silent f.config f.time f.next _ s' 0) v.notice x.room
+      server_acts_lem f v l k _ f.notices (silent f.config f.time f.next _ s' Done) v.notice x.room
   good_effect (return k) x =
       server_acts_lem f v l k _ _ (silent f.config f.time f.next _
-      (cleared f.config f.time f.next 32 f.time (clock f k) true _ _ _ (le→leb _ _ (le_refl f.time)) (reads f v k x.names) (stored_at f v k x.names).records) 0)
+      (cleared f.config f.time f.next 32 f.time (clock f k) true _ _ _ (le→leb _ _ (le_refl f.time)) (reads f v k x.names) (stored_at f v k x.names).records) Done)
       (λ k' j h h' ne. row_now_lem f.notices k f.time (k' * 4 + j) (v.notice k' j h h' ne)) x.room
   good_effect (notice k j says) x =
       let h = and_l _ _ x.names in

@@ -9,6 +9,7 @@ use lib.Dec.{T, eqb, ltb→lt}
 use lib.ListN.{length, get_or, set}
 use Rattle.types.specs.declared.Server.{Server}
 use Rattle.types.specs.declared.Message.{Message}
+use Rattle.types.specs.declared.Outcome.TheVariants.{Done}
 use Rattle.types.specs.declared.Facade.{Facade}
 use Rattle.rules.specs.Conditions.{◌and◌, filled}
 use Rattle.rules.specs.Parts.{no_write, server_at, clock, leads_at, potlease_at, with_life}
@@ -53,7 +54,7 @@ module _ (f : Facade) (g : Ranged f) (four : length f.servers ≡ 4) (len : leng
   unfolding effect deed_of takes_out taken_out enacted server_after notices_after exists after_return
   leased_return k w =
       let hk : k < f.config.servers = ltb→lt k _ w.names in
-      let s : Server = with_life (after_return (clock f k) (server_at f k)).server true f.time in
+      let s : Server = with_life (after_return (clock f k) (server_at f k)).after true f.time in
       let raised : Raised (world f) k s =
       record { place = place k hk; row = v.rows k hk; up = survive k; lead = λ a e ha _ t. absurd (rep_false 32 a t) } in
       let out = Waits (send_all f nothing) in
@@ -111,4 +112,4 @@ module _ (f : Facade) (g : Ranged f) (four : length f.servers ≡ 4) (len : leng
   unfolding effect deed_of takes_out taken_out enacted server_after notices_after exists cleaned
   leased_cleanup one k w =
       let hk : k < f.config.servers = ltb→lt k _ w.names in
-      silent f g four one v k hk (Waits (send_all f nothing)) _ 0 (λ m p. inl (unsent m p))
+      silent f g four one v k hk (Waits (send_all f nothing)) _ Done (λ m p. inl (unsent m p))

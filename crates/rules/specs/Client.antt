@@ -8,13 +8,16 @@ use Rattle.types.specs.declared.Body.{Body}
 use Rattle.types.specs.declared.Body.TheVariants.{Empty, Discover, Offer, Request, Renew, Write, WriteAck, Ack}
 use Rattle.types.specs.declared.Message.{Message}
 use Rattle.types.specs.declared.Outbox.{Outbox}
-use Rattle.types.specs.declared.ClientAnswer.{ClientAnswer}
+use Rattle.types.specs.declared.Outcome.{Outcome}
+use Rattle.types.specs.declared.Outcome.TheVariants.{Done, Unmet}
+use Rattle.types.specs.declared.Client.{Client}
+use Rattle.types.specs.declared.Reaction.{Reaction}
 use Rattle.rules.specs.Conditions.{◌and◌}
 use Rattle.rules.specs.Parts.{client_party, in_state, message}
-use Rattle.rules.specs.Messages.{nothing, to_each}
+use Rattle.rules.specs.Messages.{nothing, answer, to_each}
 
-abbrev pub reply : State → ℕ → Outbox → ClientAnswer
-reply x n o = record { client = in_state x; outcome = n; outbox = o }
+abbrev pub reply : State → Outcome → Outbox → Reaction Client
+reply x n o = answer (in_state x) n o
 
 -- the same message to each server
 abbrev pub broadcast : Config → ℕ → ℕ → Body → Outbox
@@ -43,24 +46,24 @@ lapsed r (Waiting q a) = Waiting q a
 lapsed r (Holding a e q) = cond (ltb r e) (Holding a e q) Idle
 
 -- "with a new κ", q, "the client is asking, and one discover goes to each server"; one that holds may not
-unfoldable pub discovers : Config → ℕ → State → ℕ → ClientAnswer
-discovers c i x q = cond (is_holding x) (reply x 1 nothing) (reply (Asking q) 0 (broadcast c i q Discover))
+unfoldable pub discovers : Config → ℕ → State → ℕ → Reaction Client
+discovers c i x q = cond (is_holding x) (reply x Unmet nothing) (reply (Asking q) Done (broadcast c i q Discover))
 
 -- "an offered client becomes waiting; (κ, address, τ) goes to each server"
-unfoldable pub requests : Config → ℕ → State → ℕ → ClientAnswer
-requests c i Idle t = reply Idle 1 nothing
-requests c i (Asking q) t = reply (Asking q) 1 nothing
-requests c i (Offered q a) t = reply (Waiting q a) 0 (broadcast c i q (Request a t))
-requests c i (Waiting q a) t = reply (Waiting q a) 1 nothing
-requests c i (Holding a e q) t = reply (Holding a e q) 1 nothing
+unfoldable pub requests : Config → ℕ → State → ℕ → Reaction Client
+requests c i Idle t = reply Idle Unmet nothing
+requests c i (Asking q) t = reply (Asking q) Unmet nothing
+requests c i (Offered q a) t = reply (Waiting q a) Done (broadcast c i q (Request a t))
+requests c i (Waiting q a) t = reply (Waiting q a) Unmet nothing
+requests c i (Holding a e q) t = reply (Holding a e q) Unmet nothing
 
 -- "a holding client takes a new κ", n; "(κ, address, its end, τ) goes to each server"
-unfoldable pub renews : Config → ℕ → State → ℕ → ℕ → ClientAnswer
-renews c i Idle t n = reply Idle 1 nothing
-renews c i (Asking q) t n = reply (Asking q) 1 nothing
-renews c i (Offered q a) t n = reply (Offered q a) 1 nothing
-renews c i (Waiting q a) t n = reply (Waiting q a) 1 nothing
-renews c i (Holding a e q) t n = reply (Holding a e n) 0 (broadcast c i n (Renew a e t))
+unfoldable pub renews : Config → ℕ → State → ℕ → ℕ → Reaction Client
+renews c i Idle t n = reply Idle Unmet nothing
+renews c i (Asking q) t n = reply (Asking q) Unmet nothing
+renews c i (Offered q a) t n = reply (Offered q a) Unmet nothing
+renews c i (Waiting q a) t n = reply (Waiting q a) Unmet nothing
+renews c i (Holding a e q) t n = reply (Holding a e n) Done (broadcast c i n (Renew a e t))
 
 -- "an asking client with that κ"
 unfoldable pub asks_with : State → ℕ → Bool
@@ -71,8 +74,8 @@ asks_with (Waiting q' a) q = false
 asks_with (Holding a e q') q = false
 
 -- "becomes offered"
-unfoldable pub on_offer : State → ℕ → ℕ → ClientAnswer
-on_offer x q a = cond (asks_with x q) (reply (Offered q a) 0 nothing) (reply x 1 nothing)
+unfoldable pub on_offer : State → ℕ → ℕ → Reaction Client
+on_offer x q a = cond (asks_with x q) (reply (Offered q a) Done nothing) (reply x Unmet nothing)
 
 -- "a client waiting with that κ and address, or holding with that κ and address"
 unfoldable pub expects : State → ℕ → ℕ → Bool
@@ -87,19 +90,19 @@ abbrev pub new_end : State → ℕ → ℕ
 new_end x e = e
 
 -- "holds until the end, if the end is above its clock"
-unfoldable pub on_ack : ℕ → State → ℕ → ℕ → ℕ → ClientAnswer
-on_ack r x q a e = cond (expects x q a and ltb r e) (reply (Holding a (new_end x e) q) 0 nothing) (reply x 1 nothing)
+unfoldable pub on_ack : ℕ → State → ℕ → ℕ → ℕ → Reaction Client
+on_ack r x q a e = cond (expects x q a and ltb r e) (reply (Holding a (new_end x e) q) Done nothing) (reply x Unmet nothing)
 
 -- a message that is for a server has no condition here that is met
-unfoldable pub client_handles : ℕ → State → ℕ → Body → ClientAnswer
-client_handles r x q Empty = reply x 1 nothing
-client_handles r x q Discover = reply x 1 nothing
+unfoldable pub client_handles : ℕ → State → ℕ → Body → Reaction Client
+client_handles r x q Empty = reply x Unmet nothing
+client_handles r x q Discover = reply x Unmet nothing
 client_handles r x q (Offer a) = on_offer x q a
-client_handles r x q (Request a t) = reply x 1 nothing
-client_handles r x q (Renew a e t) = reply x 1 nothing
-client_handles r x q (Write a v) = reply x 1 nothing
-client_handles r x q (WriteAck a v) = reply x 1 nothing
+client_handles r x q (Request a t) = reply x Unmet nothing
+client_handles r x q (Renew a e t) = reply x Unmet nothing
+client_handles r x q (Write a v) = reply x Unmet nothing
+client_handles r x q (WriteAck a v) = reply x Unmet nothing
 client_handles r x q (Ack a e) = on_ack r x q a e
 
-abbrev pub client_receives : ℕ → State → Message → ClientAnswer
+abbrev pub client_receives : ℕ → State → Message → Reaction Client
 client_receives r x m = client_handles r x m.interaction m.body

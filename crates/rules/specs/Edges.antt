@@ -2,7 +2,6 @@
 -- two rules at once.
 -- One table; the claims about it, computed by `step`, are in proofs/.
 use Rattle.std.specs.Prelude.{true, false, cond, List, [], ◌∷◌, ◌++◌, map, ℕ, ◌+◌, ◌-◌, ◌*◌, eqb, set, replicate, ℤ, pos, negsuc}
-use Rattle.types.specs.declared.Reserved.TheVariants.{Taken}
 use Rattle.types.specs.declared.Server.{Server}
 use Rattle.types.specs.declared.Binding.{Binding}
 use Rattle.types.specs.declared.State.{State}
@@ -12,7 +11,7 @@ use Rattle.types.specs.declared.Message.{Message}
 use Rattle.types.specs.declared.Facade.{Facade}
 use Rattle.types.specs.declared.Step.{Step}
 use Rattle.types.specs.declared.Answer.{Answer}
-use Rattle.rules.specs.Parts.{server_at, message, no_message, in_state, with_life, with_leading, binding_at, with_binding, with_reservation, with_lease, with_server, with_client, with_time, with_next, with_notices, with_messages}
+use Rattle.rules.specs.Parts.{taken, server_at, message, no_message, in_state, with_life, with_leading, binding_at, with_binding, with_reservation, with_lease, with_server, with_client, with_time, with_next, with_notices, with_messages}
 use Rattle.rules.specs.Server.{opened, closed}
 use Rattle.rules.specs.Steps.{fresh}
 use Rattle.rules.specs.Examples.{answered, step_of, pass, fail, return, notice, discover, request, renew, deliver, lose, cleanup, config_of}
@@ -87,7 +86,7 @@ keeping : ℕ → (Binding → Binding) → Server → Server
 keeping a g s = with_binding s a (g (binding_at s a))
 
 reserves : ℕ → ℕ → ℕ → Server → Server
-reserves a q r s = keeping a (λ b. with_reservation b (Taken q r)) s
+reserves a q r s = keeping a (λ b. with_reservation b (taken q r)) s
 
 lends : ℕ → ℕ → Server → Server
 lends a e s = keeping a (λ b. with_lease b e b.potlease closed) s

@@ -3,12 +3,9 @@
 -- is as it was given.
 -- Changes are written here part by part and share nothing with the rules. Unused places hold odd values, so that a rule that
 -- touches them is seen.
-use Rattle.std.specs.Prelude.{Bool, true, false, List, [], ◌∷◌, ◌++◌, map, ℕ, ◌+◌, ◌*◌, get_or, set, take, replicate, ℤ, pos, negsuc}
+use Rattle.std.specs.Prelude.{Bool, true, false, List, [], ◌∷◌, ◌++◌, map, ℕ, ◌+◌, ◌*◌, get_or, set, take, replicate, ℤ, pos, negsuc, Option, None}
 use Rattle.types.specs.declared.Config.{Config}
-use Rattle.types.specs.declared.Reserved.{Reserved}
-use Rattle.types.specs.declared.Reserved.TheVariants.{Free, Taken}
 use Rattle.types.specs.declared.Reservation.{Reservation}
-use Rattle.types.specs.declared.Pending.TheVariants.{Closed, Open}
 use Rattle.types.specs.declared.OpenWrite.{OpenWrite}
 use Rattle.types.specs.declared.Server.{Server}
 use Rattle.types.specs.declared.State.{State}
@@ -19,7 +16,7 @@ use Rattle.types.specs.declared.Message.{Message}
 use Rattle.types.specs.declared.Facade.{Facade}
 use Rattle.types.specs.declared.Step.{Step}
 use Rattle.types.specs.declared.Answer.{Answer}
-use Rattle.rules.specs.Parts.{message, no_server}
+use Rattle.rules.specs.Parts.{taken, open_write, message, no_server}
 use Rattle.rules.specs.Examples.{answered, pass, fail, return, notice, discover, request, renew, deliver, lose, cleanup, config_of}
 use Rattle.rules.specs.Edges.{◌▷◌, minus}
 
@@ -30,7 +27,7 @@ through (g ∷ gs) x = through gs (g x)
 
 -- Changes to a server.
 
-abbrev pub server_of : Bool → ℕ → ℕ → List Bool → List Bool → List Reservation → List ℕ → List ℕ → List OpenWrite → Server
+abbrev pub server_of : Bool → ℕ → ℕ → List Bool → List Bool → List (Option Reservation) → List ℕ → List ℕ → List OpenWrite → Server
 server_of x c r b ls rs es vs ws =
     record { alive = x; changed = c; returned = r; believed = b; leads = ls; reserved = rs; lent = es; potlease = vs; writes = ws }
 
@@ -47,8 +44,8 @@ believing b s = server_of s.alive s.changed s.returned b s.leads s.reserved s.le
 abbrev leads : ℕ → Bool → Server → Server
 leads a x s = server_of s.alive s.changed s.returned s.believed (set s.leads a x) s.reserved s.lent s.potlease s.writes
 
-abbrev reserved : ℕ → Reserved → Server → Server
-reserved a x s = server_of s.alive s.changed s.returned s.believed s.leads (set s.reserved a (record { state = x })) s.lent s.potlease s.writes
+abbrev reserved : ℕ → Option Reservation → Server → Server
+reserved a x s = server_of s.alive s.changed s.returned s.believed s.leads (set s.reserved a x) s.lent s.potlease s.writes
 
 abbrev lent : ℕ → ℕ → Server → Server
 lent a e s = server_of s.alive s.changed s.returned s.believed s.leads s.reserved (set s.lent a e) s.potlease s.writes
@@ -64,10 +61,10 @@ abbrev pub flags : Bool → Bool → Bool → Bool → List Bool
 flags w x y z = w ∷ x ∷ y ∷ z ∷ []
 
 abbrev pub pending : ℕ → ℕ → List Bool → OpenWrite
-pending q v b = record { pending = Open q v; acked = b }
+pending q v b = record { pending = open_write q v; acked = b }
 
 abbrev pub shut : OpenWrite
-shut = record { pending = Closed; acked = flags false false false false }
+shut = record { pending = None; acked = flags false false false false }
 
 -- Changes to a facade.
 
@@ -118,7 +115,7 @@ abbrev pub numbered : ℕ → Bool → Server
 numbered n x =
     server_of true 95 (40 + n) (flags true true true x)
     (false ∷ true ∷ true ∷ false ∷ true ∷ true ∷ replicate 26 false)
-    (map (λ x. record { state = x }) (Free ∷ Taken 4 85 ∷ Taken 3 89 ∷ Taken 4 91 ∷ Taken 4 7 ∷ replicate 27 Free))
+    (None ∷ taken 4 85 ∷ taken 3 89 ∷ taken 4 91 ∷ taken 4 7 ∷ replicate 27 None)
     ((10 + n) ∷ (20 + n) ∷ (30 + n) ∷ (40 + n) ∷ replicate 28 3000000000)
     ((50 + n) ∷ (60 + n) ∷ (70 + n) ∷ (80 + n) ∷ replicate 28 5)
     (shut ∷ pending 4 160 (flags false true false true) ∷ pending 3 170 (flags true false true false) ∷ shut ∷ replicate 28 (pending 99 4000000000 (flags true true true true)))
@@ -207,7 +204,7 @@ lives =
     row odd (fail 1) 0 (server 1 (life false 100 ∷ []) ∷ [])
     ∷ row odd (fail 2) 0 (server 2 (life false 100 ∷ []) ∷ [])
     ∷ row (odd ▷ server 2 (life false 80 ∷ believing (flags false true false false) ∷ [])) (return 2) 0
-    (server 2 ((λ s. server_of true 100 101 (replicate 4 true) (replicate 32 false) (replicate 32 (record { state = Free })) (replicate 32 0) s.potlease (replicate 32 shut)) ∷ [])
+    (server 2 ((λ s. server_of true 100 101 (replicate 4 true) (replicate 32 false) (replicate 32 None) (replicate 32 0) s.potlease (replicate 32 shut)) ∷ [])
     ∷ heard 2 0 100 ∷ heard 2 1 100 ∷ heard 2 2 100 ∷ heard 2 3 100 ∷ [])
     ∷ []
 
@@ -245,21 +242,21 @@ asks =
 
 -- 8 deliver, a discover to server 1 at clock 98: 0 is not led, 1 to 3 can be offered; the same κ again; a record of 94 and of 93.
 abbrev offering : Facade
-offering = odd ▷ server 1 (reserved 1 Free ∷ reserved 2 Free ∷ reserved 3 Free ∷ leads 3 true ∷ [])
+offering = odd ▷ server 1 (reserved 1 None ∷ reserved 2 None ∷ reserved 3 None ∷ leads 3 true ∷ [])
 
 discovers : List Row
 discovers =
-    handles offering (message 6 1 7 Discover) 0 (server 1 (reserved 1 (Taken 7 98) ∷ []) ∷ []) (message 1 6 7 (Offer 1) ∷ [])
-    ++ handles (offering ▷ server 1 (reserved 1 (Taken 7 97) ∷ [])) (message 6 1 7 Discover) 0 (server 1 (reserved 2 (Taken 7 98) ∷ []) ∷ []) (message 1 6 7 (Offer 2) ∷ [])
-    ++ handles (offering ▷ server 1 (records 1 94 ∷ [])) (message 5 1 8 Discover) 0 (server 1 (reserved 2 (Taken 8 98) ∷ []) ∷ []) (message 1 5 8 (Offer 2) ∷ [])
-    ++ handles (offering ▷ server 1 (records 1 93 ∷ [])) (message 5 1 8 Discover) 0 (server 1 (reserved 1 (Taken 8 98) ∷ []) ∷ []) (message 1 5 8 (Offer 1) ∷ [])
+    handles offering (message 6 1 7 Discover) 0 (server 1 (reserved 1 (taken 7 98) ∷ []) ∷ []) (message 1 6 7 (Offer 1) ∷ [])
+    ++ handles (offering ▷ server 1 (reserved 1 (taken 7 97) ∷ [])) (message 6 1 7 Discover) 0 (server 1 (reserved 2 (taken 7 98) ∷ []) ∷ []) (message 1 6 7 (Offer 2) ∷ [])
+    ++ handles (offering ▷ server 1 (records 1 94 ∷ [])) (message 5 1 8 Discover) 0 (server 1 (reserved 2 (taken 8 98) ∷ []) ∷ []) (message 1 5 8 (Offer 2) ∷ [])
+    ++ handles (offering ▷ server 1 (records 1 93 ∷ [])) (message 5 1 8 Discover) 0 (server 1 (reserved 1 (taken 8 98) ∷ []) ∷ []) (message 1 5 8 (Offer 1) ∷ [])
     -- none; there is no address 4
-    ++ handles (odd ▷ server 2 (reserved 4 Free ∷ [])) (message 6 2 7 Discover) 1 [] []
+    ++ handles (odd ▷ server 2 (reserved 4 None ∷ [])) (message 6 2 7 Discover) 1 [] []
 
 -- A request to server 1: the reservations of κ 4 at addresses 1 and 3 go, that of κ 3 at the address itself stays. Lent until
 -- 148; the wanted end is smaller and larger.
 abbrev dropped : Facade → Facade
-dropped = server 1 (reserved 1 Free ∷ reserved 3 Free ∷ [])
+dropped = server 1 (reserved 1 None ∷ reserved 3 None ∷ [])
 
 requests : List Row
 requests =
@@ -269,9 +266,9 @@ requests =
     (dropped ∷ server 1 (lent 2 148 ∷ records 2 400 ∷ writes 2 (pending 4 400 (flags false true false false)) ∷ []) ∷ [])
     (message 1 6 4 (Ack 2 148) ∷ message 1 0 4 (Write 2 400) ∷ message 1 2 4 (Write 2 400) ∷ [])
     -- the first of two servers, and the last of four, whose clock reads 99
-    ++ handles two (message 5 0 3 (Request 1 5)) 0 (server 0 (reserved 2 Free ∷ lent 1 152 ∷ records 1 152 ∷ writes 1 (pending 3 152 (flags true false false false)) ∷ []) ∷ [])
+    ++ handles two (message 5 0 3 (Request 1 5)) 0 (server 0 (reserved 2 None ∷ lent 1 152 ∷ records 1 152 ∷ writes 1 (pending 3 152 (flags true false false false)) ∷ []) ∷ [])
     (message 0 5 3 (Ack 1 152) ∷ message 0 1 3 (Write 1 152) ∷ [])
-    ++ handles four (message 5 3 3 (Request 2 5)) 0 (server 3 (reserved 2 Free ∷ lent 2 149 ∷ records 2 149 ∷ writes 2 (pending 3 149 (flags false false false true)) ∷ []) ∷ [])
+    ++ handles four (message 5 3 3 (Request 2 5)) 0 (server 3 (reserved 2 None ∷ lent 2 149 ∷ records 2 149 ∷ writes 2 (pending 3 149 (flags false false false true)) ∷ []) ∷ [])
     (message 3 5 3 (Ack 2 149) ∷ message 3 0 3 (Write 2 149) ∷ message 3 1 3 (Write 2 149) ∷ message 3 2 3 (Write 2 149) ∷ [])
     -- not granted: a record of 94, and an address that is not led
     ++ handles (odd ▷ server 1 (records 2 94 ∷ [])) (message 3 1 4 (Request 2 140)) 1 (dropped ∷ []) []
@@ -354,8 +351,8 @@ others =
     ∷ row (odd ▷ sends (m₀ ∷ [])) (lose 1) 0 (queue 3 (m₀ ∷ m₂ ∷ m₀ ∷ none ∷ []) ∷ [])
     ∷ row odd (lose 2) 0 (queue 2 (m₀ ∷ m₁ ∷ none ∷ []) ∷ [])
     -- 10 cleanup: at clock 98 the reservation at 85 goes, those at 89 and 91 stay; at 102 all go. That of address 4 stays.
-    ∷ row odd (cleanup 1) 0 (server 1 (reserved 1 Free ∷ []) ∷ [])
-    ∷ row odd (cleanup 0) 0 (server 0 (reserved 1 Free ∷ reserved 2 Free ∷ reserved 3 Free ∷ []) ∷ [])
+    ∷ row odd (cleanup 1) 0 (server 1 (reserved 1 None ∷ []) ∷ [])
+    ∷ row odd (cleanup 0) 0 (server 0 (reserved 1 None ∷ reserved 2 None ∷ reserved 3 None ∷ []) ∷ [])
     ∷ [])
 
 pub table : List Row
@@ -381,7 +378,7 @@ holding =
 abbrev pub begun : Config → Facade
 begun c =
     facade_with c 0 1 (replicate 36 (pos 0))
-    (replicate 4 (server_of true 0 0 (replicate 4 true) (replicate 32 false) (replicate 32 (record { state = Free })) (replicate 32 0) (replicate 32 0) (replicate 32 shut)))
+    (replicate 4 (server_of true 0 0 (replicate 4 true) (replicate 32 false) (replicate 32 None) (replicate 32 0) (replicate 32 0) (replicate 32 shut)))
     (replicate 16 0) (replicate 32 (record { state = Idle })) (replicate 128 none) 0
 
 abbrev pub begins : ℕ → Config → Answer

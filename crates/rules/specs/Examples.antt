@@ -1,9 +1,8 @@
 -- The worked examples of document 01: rows P1 to P12 and the run of the rig. Each is computed by `step` itself, refusal 2
 -- included, but for the ranks of P12.
-use Rattle.std.specs.Prelude.{Bool, true, false, List, [], ◌∷◌, ◌++◌, map, ℕ, ◌+◌, ◌-◌, set, take, replicate, pos, negsuc}
+use Rattle.std.specs.Prelude.{Bool, true, false, List, [], ◌∷◌, ◌++◌, map, ℕ, ◌+◌, ◌-◌, set, take, replicate, pos, negsuc, Option, Some, None}
 use Rattle.types.specs.declared.Config.{Config}
-use Rattle.types.specs.declared.Reserved.{Reserved}
-use Rattle.types.specs.declared.Reserved.TheVariants.{Free, Taken}
+use Rattle.types.specs.declared.Reservation.{Reservation}
 use Rattle.types.specs.declared.Server.{Server}
 use Rattle.types.specs.declared.State.{State}
 use Rattle.types.specs.declared.State.TheVariants.{Idle, Asking, Offered, Waiting, Holding}
@@ -15,7 +14,7 @@ use Rattle.types.specs.declared.Step.{Step}
 use Rattle.types.specs.declared.Answer.{Answer}
 use Rattle.rules.specs.Conditions.{◌and◌, ◌or◌, is_within, unless, all, lowest, filled}
 use Rattle.rules.specs.Clock.{as_signed}
-use Rattle.rules.specs.Parts.{notice_at, believes, no_reservation, server_at, state_at, leads_at, reserved_at, lent_at, potlease_at, message, in_state, no_message, with_life, with_server, with_time}
+use Rattle.rules.specs.Parts.{notice_at, believes, taken, server_at, state_at, leads_at, reserved_at, lent_at, potlease_at, message, in_state, no_message, with_life, with_server, with_time}
 use Rattle.rules.specs.Ranges.{config_in_range, interaction_in_range, offset_in_range, reservation_in_range, write_in_range, address_in_range, server_in_range, notice_in_range, state_in_range, is_client, body_in_range, message_in_range, in_range}
 use Rattle.rules.specs.Order.{rank, is_first}
 use Rattle.rules.specs.Messages.{post_unless, to_servers, sent_behind, removed}
@@ -70,14 +69,14 @@ unfoldable pub row_config : ℕ → ℕ → Config
 row_config s a = config_of s 1 a 2 5 50 10
 
 -- a server alive since c, with return reading r, that leads address 0 or does not; the reservation, lent end and record of that address
-unfoldable pub server_of : ℕ → ℕ → Bool → Reserved → ℕ → ℕ → Server
+unfoldable pub server_of : ℕ → ℕ → Bool → Option Reservation → ℕ → ℕ → Server
 server_of c r led x l v = record {
   alive = true;
   changed = c;
   returned = r;
   believed = replicate 4 true;
   leads = led ∷ replicate 31 false;
-  reserved = record { state = x } ∷ replicate 31 no_reservation;
+  reserved = x ∷ replicate 31 None;
   lent = l ∷ replicate 31 0;
   potlease = v ∷ replicate 31 0;
   writes = replicate 32 closed;
@@ -85,7 +84,7 @@ server_of c r led x l v = record {
 
 -- one of which nothing is asked
 unfoldable pub plain : Server
-plain = server_of 0 0 false Free 0 0
+plain = server_of 0 0 false None 0 0
 
 -- at true time t, with all notices at h, client 0 in state x and n messages; server 0's clock is 2 ahead and the client's 1
 -- behind, so that a clock is told from true time
@@ -127,9 +126,9 @@ held_until (Offered q a) = 0
 held_until (Waiting q a) = 0
 held_until (Holding a e q) = e
 
-unfoldable pub is_taken : Reserved → Bool
-is_taken Free = false
-is_taken (Taken q r) = true
+unfoldable pub is_taken : Option Reservation → Bool
+is_taken None = false
+is_taken (Some x) = true
 
 -- the end that a message names
 unfoldable pub end_named : Body → ℕ
@@ -181,17 +180,17 @@ pub data Ask : Type 0 where
 
 unfoldable pub answer : Ask → List ℕ
 answer (request_at v r t) =
-    reading (λ f. lent_at (server_at f 0) 0 ∷ sent_ends f) (answered (mail_row r (server_of 0 0 true Free 0 v) (Request 0 t)) (deliver 0 0))
+    reading (λ f. lent_at (server_at f 0) 0 ∷ sent_ends f) (answered (mail_row r (server_of 0 0 true None 0 v) (Request 0 t)) (deliver 0 0))
 answer (lead_at r' r v) =
-    reading (λ f. bit (leads_at (server_at f 0) 0) ∷ potlease_at (server_at f 0) 0 ∷ []) (answered (server_row r (server_of 0 r' false Free 0 v)) (notice 0 1 1))
+    reading (λ f. bit (leads_at (server_at f 0) 0) ∷ potlease_at (server_at f 0) 0 ∷ []) (answered (server_row r (server_of 0 r' false None 0 v)) (notice 0 1 1))
 answer (renew_at e r l) =
-    reading (λ f. lent_at (server_at f 0) 0 ∷ sent_ends f) (answered (mail_row r (server_of 0 0 true Free l l) (Renew 0 e 0)) (deliver 0 0))
+    reading (λ f. lent_at (server_at f 0) 0 ∷ sent_ends f) (answered (mail_row r (server_of 0 0 true None l l) (Renew 0 e 0)) (deliver 0 0))
 answer (clean_at r' r) =
-    reading (λ f. bit (is_taken (reserved_at (server_at f 0) 0)) ∷ []) (answered (server_row r (server_of 0 0 true (Taken 1 r') 0 0)) (cleanup 0))
+    reading (λ f. bit (is_taken (reserved_at (server_at f 0) 0)) ∷ []) (answered (server_row r (server_of 0 0 true (taken 1 r') 0 0)) (cleanup 0))
 answer (ack_at e r) = reading (λ f. held_until (state_at f 0) ∷ []) (answered (client_row r (Waiting 1 0) (Ack 0 e)) (deliver 0 0))
 answer (pass_to e r) = reading (λ f. held_until (state_at f 0) ∷ []) (answered (client_row (r - 1) (Holding 0 e 1) (Ack 0 e)) (pass 1 0 0))
 answer (dead_at c t) =
-    reading (λ f. notice_at f 0 1 ∷ bit (believes (server_at f 0).believed 1) ∷ []) (answered (row_facade t plain (server_of c 0 false Free 0 0) c Idle [] 0) (notice 0 1 0))
+    reading (λ f. notice_at f 0 1 ∷ bit (believes (server_at f 0).believed 1) ∷ []) (answered (row_facade t plain (server_of c 0 false None 0 0) c Idle [] 0) (notice 0 1 0))
 answer (silent_to t t') =
     reading (λ f. f.time ∷ []) (answered (row_facade (t + 2) plain plain t Idle [] 0) (pass (t' - (t + 2)) 0 0))
 answer (ranks s a) = rank s a 0 ∷ rank s a 1 ∷ rank s a 2 ∷ []

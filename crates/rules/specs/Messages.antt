@@ -2,12 +2,18 @@
 use Rattle.std.specs.Prelude.{Bool, true, false, cond, List, ◌∷◌, ◌++◌, ℕ, zero, suc, ◌+◌, ◌-◌, eqb, get_or, set, take, drop, replicate}
 use Rattle.types.specs.declared.Message.{Message}
 use Rattle.types.specs.declared.Outbox.{Outbox}
+use Rattle.types.specs.declared.Outcome.{Outcome}
+use Rattle.types.specs.declared.Reaction.{Reaction}
 use Rattle.types.specs.declared.Facade.{Facade}
 use Rattle.rules.specs.Parts.{no_message, with_messages}
 
 -- nothing is sent
 abbrev pub nothing : Outbox
 nothing = record { count = 0; messages = replicate 4 no_message }
+
+-- what a party is after handling something, the outcome, and what it sends
+abbrev pub answer : {T : Type 0} → T → Outcome → Outbox → Reaction T
+answer x n o = record { after = x; outcome = n; outbox = o }
 
 -- one message more
 abbrev pub post : Outbox → Message → Outbox

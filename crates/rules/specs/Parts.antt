@@ -1,11 +1,9 @@
 -- The parts of a facade: reading one, and replacing one.
 -- A reading outside an array gives what the code's reading would, `no..`: numbers 0, flags false, arrays empty, the first case.
-use Rattle.std.specs.Prelude.{Bool, false, List, [], ℕ, ◌+◌, ◌*◌, get_or, set, ℤ, pos}
+use Rattle.std.specs.Prelude.{Bool, false, List, [], ℕ, ◌+◌, ◌*◌, get_or, set, ℤ, pos, Option, Some, None}
 use Rattle.types.specs.declared.Config.{Config}
-use Rattle.types.specs.declared.Reserved.{Reserved}
-use Rattle.types.specs.declared.Reserved.TheVariants.{Free}
 use Rattle.types.specs.declared.Reservation.{Reservation}
-use Rattle.types.specs.declared.Pending.TheVariants.{Closed}
+use Rattle.types.specs.declared.Pending.{Pending}
 use Rattle.types.specs.declared.OpenWrite.{OpenWrite}
 use Rattle.types.specs.declared.Server.{Server}
 use Rattle.types.specs.declared.Binding.{Binding}
@@ -23,11 +21,16 @@ use Rattle.rules.specs.Clock.{clock_reading}
 abbrev pub no_server : Server
 no_server = record { alive = false; changed = 0; returned = 0; believed = []; leads = []; reserved = []; lent = []; potlease = []; writes = [] }
 
-abbrev pub no_reservation : Reservation
-no_reservation = record { state = Free }
+-- reserved for interaction q at clock reading r
+abbrev pub taken : ℕ → ℕ → Option Reservation
+taken q r = Some (record { interaction = q; reading = r })
+
+-- written in interaction q, v being the end
+abbrev pub open_write : ℕ → ℕ → Option Pending
+open_write q v = Some (record { interaction = q; end = v })
 
 abbrev pub no_write : OpenWrite
-no_write = record { pending = Closed; acked = [] }
+no_write = record { pending = None; acked = [] }
 
 abbrev pub believes : List Bool → ℕ → Bool
 believes b j = get_or b j false
@@ -35,8 +38,8 @@ believes b j = get_or b j false
 abbrev pub leads_at : Server → ℕ → Bool
 leads_at s a = get_or s.leads a false
 
-abbrev pub reserved_at : Server → ℕ → Reserved
-reserved_at s a = (get_or s.reserved a no_reservation).state
+abbrev pub reserved_at : Server → ℕ → Option Reservation
+reserved_at s a = get_or s.reserved a None
 
 -- the lent end (acklease)
 abbrev pub lent_at : Server → ℕ → ℕ
@@ -75,7 +78,7 @@ with_leading s b leads records = record {
   writes = s.writes;
 }
 
-abbrev pub with_reserved : Server → List Reservation → Server
+abbrev pub with_reserved : Server → List (Option Reservation) → Server
 with_reserved s rs = record {
   alive = s.alive;
   changed = s.changed;
@@ -100,13 +103,13 @@ with_binding s a b = record {
   returned = s.returned;
   believed = s.believed;
   leads = set s.leads a b.leads;
-  reserved = set s.reserved a (record { state = b.reserved });
+  reserved = set s.reserved a b.reserved;
   lent = set s.lent a b.lent;
   potlease = set s.potlease a b.potlease;
   writes = set s.writes a b.write;
 }
 
-abbrev pub with_reservation : Binding → Reserved → Binding
+abbrev pub with_reservation : Binding → Option Reservation → Binding
 with_reservation b x = record { leads = b.leads; reserved = x; lent = b.lent; potlease = b.potlease; write = b.write }
 
 -- the lent end l, the record v and the open write w

@@ -1,11 +1,9 @@
 -- The ranges: of a configuration and of a facade handed in (refusal 2).
 -- Places from S, C, A and the waiting count on are no part of a facade: they are not looked at.
-use Rattle.std.specs.Prelude.{◌≡◌, Bool, true, false, ℕ, ◌+◌, T, leb, ltb, eqb, ℤ, nat_abs, length}
+use Rattle.std.specs.Prelude.{◌≡◌, Bool, true, false, ℕ, ◌+◌, T, leb, ltb, eqb, ℤ, nat_abs, length, Option, Some, None}
 use Rattle.types.specs.declared.Config.{Config}
-use Rattle.types.specs.declared.Reserved.{Reserved}
-use Rattle.types.specs.declared.Reserved.TheVariants.{Free, Taken}
+use Rattle.types.specs.declared.Reservation.{Reservation}
 use Rattle.types.specs.declared.Pending.{Pending}
-use Rattle.types.specs.declared.Pending.TheVariants.{Closed, Open}
 use Rattle.types.specs.declared.Server.{Server}
 use Rattle.types.specs.declared.State.{State}
 use Rattle.types.specs.declared.State.TheVariants.{Idle, Asking, Offered, Waiting, Holding}
@@ -68,13 +66,13 @@ interaction_in_range n q = leb 1 q and ltb q n
 unfoldable pub offset_in_range : Config → ℕ → ℤ → Bool
 offset_in_range c t o = leb (nat_abs o) c.skew and not_negative t o
 
-unfoldable pub reservation_in_range : ℕ → Reserved → Bool
-reservation_in_range n Free = true
-reservation_in_range n (Taken q r) = interaction_in_range n q and reading_in_range r
+unfoldable pub reservation_in_range : ℕ → Option Reservation → Bool
+reservation_in_range n None = true
+reservation_in_range n (Some x) = interaction_in_range n x.interaction and reading_in_range x.reading
 
-unfoldable pub write_in_range : ℕ → Pending → Bool
-write_in_range n Closed = true
-write_in_range n (Open q v) = interaction_in_range n q and end_in_range v
+unfoldable pub write_in_range : ℕ → Option Pending → Bool
+write_in_range n None = true
+write_in_range n (Some x) = interaction_in_range n x.interaction and end_in_range x.end
 
 -- what a server stores for address a
 unfoldable pub address_in_range : ℕ → Server → ℕ → Bool

@@ -18,15 +18,16 @@ use Rattle.types.specs.declared.Deed.{Deed}
 use Rattle.types.specs.declared.Deed.TheVariants.{Rests, Passes, Serves, Asks}
 use Rattle.types.specs.declared.Answer.{Answer}
 use Rattle.types.specs.declared.World.{World}
-use Rattle.types.specs.declared.ServerAnswer.{ServerAnswer}
-use Rattle.types.specs.declared.ClientAnswer.{ClientAnswer}
+use Rattle.types.specs.declared.Outcome.TheVariants.{Done}
+use Rattle.types.specs.declared.Reaction.{Reaction}
+use Rattle.types.specs.Numbers.{outcome_number}
 use Rattle.rules.specs.Conditions.{◌and◌, ◌or◌, is_within, unless, all, counted, filled}
 use Rattle.rules.specs.Clock.{not_negative, as_signed}
 use Rattle.rules.specs.Parts.{server_at, state_at, message_at, offset_of, notice_in, clock_of, clock, client_party, parties, in_state, no_client, no_message, with_life, with_server, with_notices, with_client, with_clients, with_time, with_next}
 use Rattle.rules.specs.Views.{world_of, time_in, View, whole}
 use Rattle.rules.specs.Ranges.{config_in_range, in_range, end_in_range, is_server, last_time, last_interaction, most_waiting}
-use Rattle.rules.specs.Messages.{nothing, send_all, without_if}
-use Rattle.rules.specs.Server.{answer, noticed, cleared_server, after_return, cleaned, server_receives}
+use Rattle.rules.specs.Messages.{nothing, answer, send_all, without_if}
+use Rattle.rules.specs.Server.{noticed, cleared_server, after_return, cleaned, server_receives}
 use Rattle.rules.specs.Client.{is_offered, is_holding, lapsed, discovers, requests, renews, client_receives}
 
 -- Fresh: "time 0, clocks exact, all alive with c and return reading 0, everyone believed live, notice times 0,
@@ -231,11 +232,11 @@ lapse f = with_clients f (holds_ended f.config f.time f.offsets f.clients)
 
 -- Steps 2, 3, 4 and 10, and a message that comes: server k at true time t, whose clock reads r. Whether it is alive and since when is
 -- written here, and all else by what the server itself does.
-unfoldable pub server_after : Config → ℕ → ℕ → ℕ → Server → ServerEvent → ServerAnswer
+unfoldable pub server_after : Config → ℕ → ℕ → ℕ → Server → ServerEvent → Reaction Server
 -- "it is dead, c is now"
-server_after c t k r s Fails = answer (with_life s false t) 0 nothing
+server_after c t k r s Fails = answer (with_life s false t) Done nothing
 -- "alive, c is now, .."
-server_after c t k r s Returns = answer (with_life (after_return r s).server true t) 0 nothing
+server_after c t k r s Returns = answer (with_life (after_return r s).after true t) Done nothing
 server_after c t k r s (Notices j says) = noticed c k r s j says
 server_after c t k r s (Receives m) = server_receives c k r s m
 server_after c t k r s CleansUp = cleaned c r s
@@ -253,7 +254,7 @@ notices_after ts t k (Receives m) = ts
 notices_after ts t k CleansUp = ts
 
 -- Steps 5, 6 and 7, and a message that comes: client i, whose clock reads r, where n is the next κ
-unfoldable pub client_after : Config → ℕ → ℕ → ℕ → State → ClientEvent → ClientAnswer
+unfoldable pub client_after : Config → ℕ → ℕ → ℕ → State → ClientEvent → Reaction Client
 client_after c n i r x Discovers = discovers c i x n
 client_after c n i r x (Requests t) = requests c i x t
 client_after c n i r x (Renews t) = renews c i x t n
@@ -316,12 +317,12 @@ unfoldable pub taken_out : Facade → Action → Facade
 taken_out f x = without_if f (position x) (takes_out x)
 
 -- server k is as it answered, and what it sends waits
-abbrev pub server_acts : Facade → ℕ → ServerAnswer → Answer
-server_acts f k x = accepted (send_all (with_server f k x.server) x.outbox) x.outcome
+abbrev pub server_acts : Facade → ℕ → Reaction Server → Answer
+server_acts f k x = accepted (send_all (with_server f k x.after) x.outbox) (outcome_number x.outcome)
 
 -- the same of client i
-abbrev pub client_acts : Facade → ℕ → ClientAnswer → Answer
-client_acts f i x = accepted (send_all (with_client f i x.client) x.outbox) x.outcome
+abbrev pub client_acts : Facade → ℕ → Reaction Client → Answer
+client_acts f i x = accepted (send_all (with_client f i x.after) x.outbox) (outcome_number x.outcome)
 
 -- what happens in a facade
 unfoldable pub enacted : Facade → Deed → Answer

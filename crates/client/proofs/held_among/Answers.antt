@@ -1,35 +1,14 @@
-use mathlib.Core.Path.{refl, ap, ◌∙◌}
-use native.Mathlib.Omega.{arith}
-use lib.Dec.{ltb}
-use lib.ListN.{get_or}
-use Rattle.rules.specs.Conditions.{◌and◌, counted}
+use mathlib.Core.Path.{ap, ◌∙◌}
+use Rattle.std.proofs.Common.{rules}
+use borrow.Author.Tests.{tests}
+use Rattle.rules.specs.Conditions.{counted}
 use Rattle.rules.specs.Parts.{no_client}
 use Rattle.rules.specs.Client.{is_holding}
 use Rattle.rules.specs.Steps.{held_among}
-use Rattle.rules.proofs.Laws.{counted_more, counted_high}
+use Rattle.arith.proofs.Chains.{count_of_first}
 use Rattle.client.proofs.held_among.Goals as goal
-
-pub loop-i-init : goal.loop-i-init
-unfolding counted
-loop-i-init c = (omega arith, refl)
-
-pub does_hold-requires : goal.does_hold-requires
-does_hold-requires c = omega arith
-
-pub one_more_if-n-requires : goal.one_more_if-n-requires
-one_more_if-n-requires c = let C = c.args.c in
-    let ys = c.args.ys in
-    omega (arith, c.loop-i.invariant.1, counted_high (λ j. ltb j C.clients and is_holding (get_or ys j no_client).state) c.loop-i.i)
-
-pub overflow_add-i : goal.overflow_add-i
-overflow_add-i c = omega arith
-
-pub loop-i-smaller : goal.loop-i-smaller
-loop-i-smaller c = omega arith
-
-pub loop-i-preserved : goal.loop-i-preserved
-loop-i-preserved c = (omega arith, counted_more _ _ _ _ _ c.does_hold.ensures c.loop-i.invariant.1 c.one_more_if-n.ensures)
 
 pub returns : goal.returns
 unfolding held_among
-returns c = c.loop-i.invariant.1 ∙ ap (counted _) (omega arith)
+returns c = count_of_first (λ y. is_holding y.state) c.args.ys no_client c.args.c.clients (search rules) (search rules) (search rules) c.count.ensures.ran (λ x b q k. search (rules, tests))
+    ∙ ap (counted _) (search rules)

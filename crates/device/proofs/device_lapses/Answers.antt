@@ -1,7 +1,7 @@
 use mathlib.Core.Path.{◌≡◌}
 use lib.Dec.{ltb}
 use Rattle.device.specs.Device.{own_refusal, client_fits, device_lapses}
-use Rattle.device.proofs.Laws.{lapse_is, client_takes, client_refuses}
+use Rattle.device.proofs.Laws.{client_takes, client_refuses}
 use Rattle.device.proofs.device_lapses.Goals as goal
 use Rattle.device.proofs.device_lapses.Goals.{After-own_refusal-n}
 
@@ -18,4 +18,4 @@ pub returns : goal.returns
 unfolding device_lapses
 returns c =
     client_takes _ _ (number (goal.at.returns c).After-own_refusal-n) _ _ _ _ c.client_took.ensures
-    (lapse_is _ _ _ _ c.lapsed.ensures c.nothing-none.ensures) c.if-n-ne0.false
+    (rw (← c.lapsed.ensures) c.client_done.ensures) c.if-n-ne0.false

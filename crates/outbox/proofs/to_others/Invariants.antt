@@ -1,11 +1,7 @@
 use mathlib.Core.Path.{◌≡◌}
-use Prim.Native.Nat.{◌-◌, ◌≤◌}
 use Rattle.rules.specs.Parts.{message}
 use Rattle.rules.specs.Messages.{to_others}
 use Rattle.outbox.proofs.to_others.Given as goal
 
 abbrev pub invariant-loop-j : goal.invariant-loop-j
-invariant-loop-j l = (l.j ≤ l.n) × (l.out ≡ to_others l.k (λ i. message l.m.sender i l.m.interaction l.m.body) l.j l.initial.out)
-
-abbrev pub decreases-loop-j : goal.decreases-loop-j
-decreases-loop-j l = l.n - l.j
+invariant-loop-j l = l.out ≡ to_others l.k (λ i. message l.m.sender i l.m.interaction l.m.body) l.j l.initial.out

@@ -1,30 +1,9 @@
-use mathlib.Core.Path.{refl, ap, ◌∙◌}
-use native.Mathlib.Omega.{arith}
-use Rattle.rules.specs.Conditions.{all}
-use Rattle.rules.proofs.Laws.{all_more}
+use Rattle.std.proofs.Common.{rules}
+use borrow.Author.Tests.{tests}
+use Rattle.rules.specs.Parts.{no_server}
+use Rattle.rules.specs.Ranges.{server_in_range}
+use Rattle.arith.proofs.Chains.{all_in_first}
 use Rattle.ranges.proofs.servers_in_range.Goals as goal
 
-pub loop-k-init : goal.loop-k-init
-unfolding all
-loop-k-init c = (omega arith, refl)
-
-pub overflow_cast-at : goal.overflow_cast-at
-overflow_cast-at c = omega arith
-
-pub offset_bounds-f-at : goal.offset_bounds-f-at
-offset_bounds-f-at c = omega arith
-
-pub bounds-f-at : goal.bounds-f-at
-bounds-f-at c = omega arith
-
-pub overflow_add-k : goal.overflow_add-k
-overflow_add-k c = omega arith
-
-pub loop-k-smaller : goal.loop-k-smaller
-loop-k-smaller c = omega arith
-
-pub loop-k-preserved : goal.loop-k-preserved
-loop-k-preserved c = (omega arith, all_more _ _ _ _ _ c.server_in_range.ensures c.loop-k.invariant.1 c.both-ok.ensures)
-
 pub returns : goal.returns
-returns c = c.loop-k.invariant.1 ∙ ap (all _) (omega arith)
+returns c = let f = c.args.f in all_in_first (server_in_range f.config f.time f.next) f.servers no_server _ (search rules) (search rules) c.all.ensures.ran (λ x b q k. search (rules, tests))

@@ -1,16 +1,12 @@
-use mathlib.Core.List.{◌++◌}
 use native.Mathlib.Omega.{arith}
-use Rattle.report.specs.Lines.{decimal, spaced, line_end, record_line}
-use Rattle.report.proofs.Laws.{put_then, put_then_three}
+use Rattle.report.specs.Lines.{record_line}
+use Rattle.report.proofs.Laws.{Put, put_then, record_is}
 use Rattle.report.proofs.put_record_line.Goals as goal
 
--- The first two numbers, and the last three with the line end behind them.
-
 pub returns : goal.returns
-unfolding record_line
 returns c =
+    let p = c.put_digits-p.ensures in
+    let q = c.put_numbers.ensures in
     let l = c.args.out.now in
-    let two = put_then l (decimal c.args.k) (spaced c.args.refusal) c.args.at _ _ (omega arith) (c.put_digits-p.ensures.value, c.put_digits-p.ensures.out_after) (c.put_spaced-p.ensures.value, c.put_spaced-p.ensures.out_after) in
-    let p = put_then_three l (decimal c.args.k ++ spaced c.args.refusal) (spaced c.args.outcome) (spaced c.args.time) (spaced c.args.waiting) line_end c.args.at _ _ (omega arith) two
-    (c.put_last_three.ensures.value, c.put_last_three.ensures.out_after) in
-    record { value = p.0; out_after = p.1 }
+    let both : Put l c.args.at (record_line c.args.k c.args.refusal c.args.outcome c.args.time c.args.waiting) _ _ = rw (record_is c.args.k c.args.refusal c.args.outcome c.args.time c.args.waiting) (put_then l _ _ c.args.at _ _ (omega arith) (p.value, p.out_after) (q.value, q.out_after)) in
+    record { value = both.0; out_after = both.1 }

@@ -1,5 +1,5 @@
 use mathlib.Core.Path.{◌≡◌}
-use Prim.Native.Nat.{◌+◌, ◌-◌, ◌/◌, ◌≤◌}
+use Prim.Native.Nat.{◌+◌}
 use lib.ListN.{length}
 use Rattle.wire.specs.Numbers.{over}
 use Rattle.script.specs.Layout.{records_of}
@@ -9,10 +9,6 @@ use Rattle.writer.proofs.put_records.Given as goal
 -- the records before row n are put, and `at` is the place behind them
 abbrev pub invariant-loop-n : goal.invariant-loop-n
 invariant-loop-n l =
-    (l.n ≤ length l.l / 4)
-    × (l.at ≡ 29 + length (records_of (rows l.l l.n)))
+    (l.at ≡ 29 + length (records_of (rows l.l l.n)))
     × (l.out ≡ over l.initial.out 29 (records_of (rows l.l l.n)))
     × (length l.out ≡ length l.initial.out)
-
-abbrev pub decreases-loop-n : goal.decreases-loop-n
-decreases-loop-n l = length l.l / 4 - l.n

@@ -1,0 +1,16 @@
+use Rattle.std.proofs.Common.{rules, refl, length, ◌<◌}
+use Rattle.std.specs.Prelude.{None}
+use Rattle.arith.proofs.Chains.{written_none, written_more, written_all, next_still}
+use Rattle.lending.proofs.reservations_by.Goals as goal
+
+pub loop-x-init : goal.loop-x-init
+loop-x-init g c h e = written_none _ _ _
+
+pub loop-x-preserved : goal.loop-x-preserved
+loop-x-preserved g c h e =
+    let l = c.loop-x in
+    let inside : l.x-index < length l.x-items = search rules in
+    written_more (l.invariant h e) _ inside (rw (e _ _ c.keep.ensures, next_still (l.invariant h e) None inside) refl)
+
+pub returns : goal.returns
+returns g c h e = written_all (c.loop-x.invariant h e) (search rules)

@@ -1,4 +1,0 @@
-use Rattle.server.proofs.cleared_server.Goals as goal
-
-pub returns : goal.returns
-returns c = rw c.closed-w.ensures
