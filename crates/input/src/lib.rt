@@ -35,6 +35,7 @@ pub fn read_full<R: Read>(from: &mut R, buf: &mut [u8]) -> io::Result<usize>
     ensures full { IfOk result (λ n. n < length buf.new → IsAtEnd (R.remaining from.new)) }
 {
     let mut done = 0;
+    // a read gives as many bytes as it likes, so the turns have no count
     while done < buf.len() {
         let n = from.read(&mut buf[done..])?;
         if n == 0 {

@@ -18,6 +18,7 @@ fn print_run<W: Write>(to: &mut W, s: &[u8]) -> io::Result<()>
     // what follows a piece that could not be written would not stand behind it
     to.write_all(&out[..first.end])?;
     let mut r = first.progress;
+    // the run itself says when it has ended, so the pieces have no count
     while !r.ended {
         let next = replay::go_on(s, r, &mut out);
         to.write_all(&out[..next.end])?;

@@ -237,6 +237,7 @@ fn records_refusal(s: &[u8]) -> u32
     ensures { result ≡ records_refusal (length s.now) s.now first_record }
 {
     let mut p = FIRST_RECORD;
+    // where the next record begins is known when this one is read, so this is no `for`
     while p < s.len() {
         let r = record_at(s, p);
         if r.refusal != 0 {
