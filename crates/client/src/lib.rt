@@ -22,7 +22,7 @@ fn reply(x: State, n: Outcome, o: Outbox) -> Reaction<Client>
     }
 }
 
-// A client whose state does not allow it stays in it and sends nothing.
+// A condition is not met: the client stays in its state and sends nothing.
 fn unmoved(x: State) -> Reaction<Client>
     ensures { result ≡ reply' x Unmet nothing' }
 {

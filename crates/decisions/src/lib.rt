@@ -180,6 +180,6 @@ pub fn decided(n: u32, w: World, l: Lives, y: Client, m: Message, a: Action) -> 
     Decision {
         refusal: 0,
         taken: takes_out(a),
-        happens: happens,
+        happens,
     }
 }

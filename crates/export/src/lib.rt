@@ -55,10 +55,10 @@ pub fn hoyllaqe_step(
         return 2;
     }
     let s = Step {
-        kind: kind,
-        first: first,
-        second: second,
-        third: third,
+        kind,
+        first,
+        second,
+        third,
     };
     let x = step(facade_in(facade), s);
     if x.refusal != 0 {

@@ -4,7 +4,6 @@ use mathlib.Core.Bool.{Bool, true, false}
 use mathlib.Core.List.{List}
 use Prim.Native.Nat.{ℕ, ◌+◌, ◌≤◌, ◌<◌}
 use native.Mathlib.Omega.{arith}
-use native.Mathlib.Decide.{ℕ_discrete}
 use lib.Dec.{T, leb, leb→le, nleb→lt}
 use mir.Syntax.{w32}
 use mir.Val.{to_z, of_z}
@@ -29,7 +28,7 @@ use Rattle.rules.specs.Parts.{no_server, no_client, offset_of}
 use Rattle.rules.specs.Messages.{nothing, sent_behind}
 use Rattle.rules.specs.Ranges.{in_range}
 use Rattle.rules.specs.Views.{at_hand}
-use Rattle.rules.specs.Steps.{action_of, notices_after, next_after, moved_in, holds_ended, enacted, step}
+use Rattle.rules.specs.Steps.{action_of, notices_after, next_after, moved_in, holds_ended, enacted, step, refused}
 use Rattle.rules.proofs.Kept.{Configured}
 use Rattle.world.specs.Apart.{facade_of, WorldInRange}
 use Rattle.world.proofs.Laws.{sizes, time_high, waiting_high, offset_high, offset_read}
@@ -38,7 +37,7 @@ use Rattle.cable.proofs.Laws.{rest_high}
 use Rattle.decisions.specs.Decided.{decided}
 use Rattle.deeds.specs.Deeds.{event_in_range, DeedInRange, served_at, asked_in}
 use Rattle.facade.specs.Settled.{next_in, notices_in, waiting_in}
-use Rattle.facade.proofs.Laws.{Hand, decided_fits, decided_there, refused_rests, is_refused_so, out, rests_is, passes_is, serves_is, asks_is, few_served, few_asked, left_out, put_in}
+use Rattle.facade.proofs.Laws.{Hand, decided_fits, decided_there, out, rests_is, passes_is, serves_is, asks_is, few_served, few_asked, left_out, put_in}
 
 -- the world, but for its waiting count, the servers and the clients are w, ss and ys; of the messages ms that at p is taken
 -- out if `taken`, and what o holds waits behind the rest
@@ -57,10 +56,10 @@ room_left i j e h = leb→le i j (rw (sym e ∙ h) tt)
 none_left : {b : Bool} (i j : ℕ) → b ≡ leb i j → b ≡ false → j < i
 none_left i j e h = nleb→lt i j (rw (sym e ∙ h) tt)
 
--- Step s is refused with n, or done with outcome k where n is 0: the world, the servers and the clients are w₁, ss₁ and ys₁,
--- and the messages are still to be exchanged.
-pub record Did (w : World) (ss : List Server) (ys : List Client) (ms : List Message) (s : Step) (n : ℕ) (taken : Bool) (w₁ : World) (ss₁ : List Server) (ys₁ : List Client) (o : Outbox) (k : ℕ) : Type 0 where
-  pub answer : record { refusal = n; outcome = k; facade = left w₁ ss₁ ys₁ ms s.first taken o } ≡ step (facade_of w ss ys ms) s
+-- Step s is done with outcome k: the world, the servers and the clients are w₁, ss₁ and ys₁, and the messages are still to be
+-- exchanged.
+pub record Did (w : World) (ss : List Server) (ys : List Client) (ms : List Message) (s : Step) (taken : Bool) (w₁ : World) (ss₁ : List Server) (ys₁ : List Client) (o : Outbox) (k : ℕ) : Type 0 where
+  pub answer : record { refusal = 0; outcome = k; facade = left w₁ ss₁ ys₁ ms s.first taken o } ≡ step (facade_of w ss ys ms) s
   pub waits : w₁.waiting ≤ 128
   pub few : o.count ≤ 4
   pub room : waiting_then w₁.waiting taken o.count ≤ 128
@@ -93,43 +92,26 @@ module _ {w : World} {ss : List Server} {ys : List Client} {ms : List Message} {
   quiet : (taken : Bool) → waiting_then w.waiting taken 0 ≤ 128
   quiet taken = omega (arith, rest_high w.waiting taken, waits)
 
-  -- where something happens, no rule is broken but perhaps the last
-  kept : (d.happens ≡ Rests → ⊥) → d.refusal ≡ 0
-  kept h = by (ℕ_discrete d.refusal 0)
-    where
-      by : Dec (d.refusal ≡ 0) → d.refusal ≡ 0
-      by (yes z) = z
-      by (no z) = absurd (h (refused_rests turn.hand turn.is z).1)
-
-  -- the step is refused with n: all stays as it was
-  stays : {n : ℕ} → record { refusal = n; outcome = 0; facade = facade_of w ss ys ms } ≡ step (facade_of w ss ys ms) s → Did w ss ys ms s n false w ss ys nothing 0
-  stays e = record { answer = rw (left_alone w ss ys ms s.first) e; waits = waits; few = omega arith; room = quiet false; there = λ t. absurd t }
-
-  pub did_rest : d.happens ≡ Rests → Did w ss ys ms s d.refusal d.taken w ss ys nothing 0
-  did_rest i = by (ℕ_discrete d.refusal 0)
-    where
-      by : Dec (d.refusal ≡ 0) → Did w ss ys ms s d.refusal d.taken w ss ys nothing 0
-      by (yes z) = record {
-        answer = rw z (put_in turn.hand turn.is z (rw i (rests_is w ss ys ms s.first d.taken)) (quiet d.taken));
-        waits = waits;
-        few = omega arith;
-        room = quiet d.taken;
-        there = there;
-      }
-      by (no z) = rw (refused_rests turn.hand turn.is z).0 (stays (is_refused_so turn.hand turn.is z))
+  pub did_rest : d.refusal ≡ 0 → d.happens ≡ Rests → Did w ss ys ms s d.taken w ss ys nothing 0
+  did_rest z i = record {
+    answer = put_in turn.hand turn.is z (rw i (rests_is w ss ys ms s.first d.taken)) (quiet d.taken);
+    waits = waits;
+    few = omega arith;
+    room = quiet d.taken;
+    there = there;
+  }
 
   module _ (k j : ℕ) (v : ℤ) (i : d.happens ≡ Passes k j v) where
     pub passed_fits : (w.time + k ≤ 1000000000) × (j < 36) × (nat_abs (offset_of w.offsets j) ≤ 1000) × (nat_abs v ≤ 2000)
     unfolding DeedInRange
     passed_fits = let r = rw i at ready in (r.0, omega (arith, r.1, c_ok), offset_high (facade_of w ss ys ms) in_range_lem j r.1, r.2)
 
-    pub did_pass : {g : World} {zs : List Client} → g ≡ moved_in w k j v → zs ≡ holds_ended g.config g.time g.offsets ys
-        → Did w ss ys ms s d.refusal d.taken g ss zs nothing 0
-    did_pass a b =
-        let z = kept (λ q. let n : ◌≡◌ {A = ℕ} 0 1 = cc in absurd (omega arith)) in
+    pub did_pass : d.refusal ≡ 0 → {g : World} {zs : List Client} → g ≡ moved_in w k j v → zs ≡ holds_ended g.config g.time g.offsets ys
+        → Did w ss ys ms s d.taken g ss zs nothing 0
+    did_pass z a b =
         let wait : _ ≡ w.waiting = ap (λ (x : World). x.waiting) a in
         record {
-          answer = rw z (put_in turn.hand turn.is z (rw i (passes_is w ss ys ms s.first d.taken k j v a b)) (rw wait (quiet d.taken)));
+          answer = put_in turn.hand turn.is z (rw i (passes_is w ss ys ms s.first d.taken k j v a b)) (rw wait (quiet d.taken));
           waits = rw wait waits;
           few = omega arith;
           room = rw wait (quiet d.taken);
@@ -156,21 +138,18 @@ module _ {w : World} {ss : List Server} {ys : List Client} {ms : List Message} {
     served_low = omega (arith, noticed_fits.1.0, c_ok)
 
     module _ {y : Reaction Server} (b : y ≡ served_at w.config w.time (offset_of w.offsets k) k (get_or ss k no_server) v) where
-      served : d.refusal ≡ 0
-      served = kept (λ q. let n : ◌≡◌ {A = ℕ} 0 1 = cc in absurd (omega arith))
-
       pub few_sent : y.outbox.count ≤ 4
       unfolding DeedInRange
       few_sent = rw b (few_served _ c_ok.servers_high _ _ _ noticed_fits.1.0 _ v)
 
       module _ {g : Bool} (e : g ≡ room_for w.waiting d.taken y.outbox.count) where
-        pub serves_full : g ≡ false → Did w ss ys ms s 13 false w ss ys nothing 0
-        serves_full u = stays (left_out turn.hand turn.is served (ap (enacted (out w ss ys ms s.first d.taken)) i ∙ serves_is w ss ys ms s.first d.taken k v b refl) (none_left _ _ e u))
+        pub serves_full : d.refusal ≡ 0 → g ≡ false → refused (facade_of w ss ys ms) 13 ≡ step (facade_of w ss ys ms) s
+        serves_full z u = left_out turn.hand turn.is z (ap (enacted (out w ss ys ms s.first d.taken)) i ∙ serves_is w ss ys ms s.first d.taken k v b refl) (none_left _ _ e u)
 
-        pub did_serve : g ≡ true → {ts : List ℕ} → ts ≡ notices_after w.notices w.time k v
-            → Did w ss ys ms s d.refusal d.taken (notices_in w ts) (set ss k y.after) ys y.outbox (outcome_number y.outcome)
-        did_serve u f = record {
-          answer = rw served (put_in turn.hand turn.is served (rw i (serves_is w ss ys ms s.first d.taken k v b f)) (room_left _ _ e u));
+        pub did_serve : d.refusal ≡ 0 → g ≡ true → {ts : List ℕ} → ts ≡ notices_after w.notices w.time k v
+            → Did w ss ys ms s d.taken (notices_in w ts) (set ss k y.after) ys y.outbox (outcome_number y.outcome)
+        did_serve z u f = record {
+          answer = put_in turn.hand turn.is z (rw i (serves_is w ss ys ms s.first d.taken k v b f)) (room_left _ _ e u);
           waits = waits;
           few = few_sent;
           room = room_left _ _ e u;
@@ -187,20 +166,17 @@ module _ {w : World} {ss : List Server} {ys : List Client} {ms : List Message} {
     asked_low = omega (arith, asked_fits.1, c_ok)
 
     module _ {y : Reaction Client} (b : y ≡ asked_in w k (get_or ys k no_client) v) where
-      asked : d.refusal ≡ 0
-      asked = kept (λ q. let n : ◌≡◌ {A = ℕ} 0 1 = cc in absurd (omega arith))
-
       pub few_said : y.outbox.count ≤ 4
       few_said = rw b (few_asked _ c_ok.servers_high _ _ _ _ v)
 
       module _ {g : Bool} (e : g ≡ room_for w.waiting d.taken y.outbox.count) where
-        pub asks_full : g ≡ false → Did w ss ys ms s 13 false w ss ys nothing 0
-        asks_full u = stays (left_out turn.hand turn.is asked (ap (enacted (out w ss ys ms s.first d.taken)) i ∙ asks_is w ss ys ms s.first d.taken k v b refl) (none_left _ _ e u))
+        pub asks_full : d.refusal ≡ 0 → g ≡ false → refused (facade_of w ss ys ms) 13 ≡ step (facade_of w ss ys ms) s
+        asks_full z u = left_out turn.hand turn.is z (ap (enacted (out w ss ys ms s.first d.taken)) i ∙ asks_is w ss ys ms s.first d.taken k v b refl) (none_left _ _ e u)
 
-        pub did_ask : g ≡ true → {next : ℕ} → next ≡ next_after w.next v
-            → Did w ss ys ms s d.refusal d.taken (next_in w next) ss (set ys k y.after) y.outbox (outcome_number y.outcome)
-        did_ask u f = record {
-          answer = rw asked (put_in turn.hand turn.is asked (rw i (asks_is w ss ys ms s.first d.taken k v b f)) (room_left _ _ e u));
+        pub did_ask : d.refusal ≡ 0 → g ≡ true → {next : ℕ} → next ≡ next_after w.next v
+            → Did w ss ys ms s d.taken (next_in w next) ss (set ys k y.after) y.outbox (outcome_number y.outcome)
+        did_ask z u f = record {
+          answer = put_in turn.hand turn.is z (rw i (asks_is w ss ys ms s.first d.taken k v b f)) (room_left _ _ e u);
           waits = waits;
           few = few_said;
           room = room_left _ _ e u;
@@ -212,8 +188,8 @@ module _ {w : World} {ss : List Server} {ys : List Client} {ms : List Message} {
   asked_of h = (waits, h, λ t. omega (arith, there t))
 
 -- What was done, with the messages exchanged, is the answer to the step.
-module _ {w : World} {ss : List Server} {ys : List Client} {ms : List Message} {s : Step} {n : ℕ} {taken : Bool} {w₁ : World} {ss₁ : List Server} {ys₁ : List Client} {o : Outbox} {k : ℕ}
-    (it : Did w ss ys ms s n taken w₁ ss₁ ys₁ o k) where
+module _ {w : World} {ss : List Server} {ys : List Client} {ms : List Message} {s : Step} {taken : Bool} {w₁ : World} {ss₁ : List Server} {ys₁ : List Client} {o : Outbox} {k : ℕ}
+    (it : Did w ss ys ms s taken w₁ ss₁ ys₁ o k) where
   pub exchange_fits : (w₁.waiting ≤ 128) × (o.count ≤ 4) × (T taken → s.first < w₁.waiting)
   exchange_fits = (it.waits, it.few, it.there)
 
@@ -221,10 +197,10 @@ module _ {w : World} {ss : List Server} {ys : List Client} {ms : List Message} {
   waiting_fits = (it.waits, it.few, λ t. omega (arith, it.there t))
 
   pub all_put : {waits : ℕ} → waits ≡ waiting_then w₁.waiting taken o.count → {ms₁ : List Message} → ms₁ ≡ exchanged ms s.first w₁.waiting taken o
-      → record { refusal = n; outcome = k; facade = facade_of (waiting_in w₁ waits) ss₁ ys₁ ms₁ } ≡ step (facade_of w ss ys ms) s
+      → record { refusal = 0; outcome = k; facade = facade_of (waiting_in w₁ waits) ss₁ ys₁ ms₁ } ≡ step (facade_of w ss ys ms) s
   all_put e q = rw (q, e) it.answer
 
 -- the same of what the code's variables hold
-pub held_by : {w : World} {ss : List Server} {ys : List Client} {ms : List Message} {s : Step} {n₁ n₂ : ℕ} {taken₁ taken₂ : Bool} {w₁ w₂ : World} {ss₁ ss₂ : List Server} {ys₁ ys₂ : List Client} {o₁ o₂ : Outbox} {k₁ k₂ : ℕ}
-    → Did w ss ys ms s n₁ taken₁ w₁ ss₁ ys₁ o₁ k₁ → n₂ ≡ n₁ → taken₂ ≡ taken₁ → w₂ ≡ w₁ → ss₂ ≡ ss₁ → ys₂ ≡ ys₁ → o₂ ≡ o₁ → k₂ ≡ k₁ → Did w ss ys ms s n₂ taken₂ w₂ ss₂ ys₂ o₂ k₂
-held_by it n t a b c d e = rw (n, t, a, b, c, d, e) it
+pub held_by : {w : World} {ss : List Server} {ys : List Client} {ms : List Message} {s : Step} {taken : Bool} {w₁ w₂ : World} {ss₁ ss₂ : List Server} {ys₁ ys₂ : List Client} {o₁ o₂ : Outbox} {k₁ k₂ : ℕ}
+    → Did w ss ys ms s taken w₁ ss₁ ys₁ o₁ k₁ → w₂ ≡ w₁ → ss₂ ≡ ss₁ → ys₂ ≡ ys₁ → o₂ ≡ o₁ → k₂ ≡ k₁ → Did w ss ys ms s taken w₂ ss₂ ys₂ o₂ k₂
+held_by it a b c d e = rw (a, b, c, d, e) it

@@ -260,13 +260,6 @@ module _ {w : World} {ss : List Server} {ys : List Client} {ms : List Message} {
         rw e (cond_case (λ (z : Decision). T z.taken → s.first < w.waiting) (eqb (broken (at_hand w l x) (action_of s) 0) 0) _ _
         (λ t. taken_low _ refl (eqb→eq _ _ t)) (λ t b. absurd b))
 
-    -- in a refused step no message is taken out, and nothing happens
-    pub refused_rests : (d.refusal ≡ 0 → ⊥) → (d.taken ≡ false) × (d.happens ≡ Rests)
-    unfolding decided
-    refused_rests =
-        rw e (cond_case (λ (z : Decision). (z.refusal ≡ 0 → ⊥) → (z.taken ≡ false) × (z.happens ≡ Rests)) (eqb (broken (at_hand w l x) (action_of s) 0) 0) _ _
-        (λ t b. absurd (b refl)) (λ t b. (refl, refl)))
-
     -- the answer is the refusal, or what happens unless the cable is full
     pub is_decided : unless_refused (facade_of w ss ys ms) d.refusal (unless_full (facade_of w ss ys ms) (enacted (without_if (facade_of w ss ys ms) s.first d.taken) d.happens))
         ≡ step (facade_of w ss ys ms) s

@@ -64,8 +64,8 @@ pub fn start(c: Config) -> Answer
 }
 
 // A step s of a facade in range that is apart: its refusal or 0, and its outcome. `malformed` is the refusal that its form gives it.
-// At hand are the message and the client with the number in its first field. What happens is put in, and then the messages are
-// exchanged. In a refused step nothing happens and no message is taken out, so that every step goes the same way.
+// At hand are the message and the client with the number in its first field. A refused step changes nothing; else what happens is
+// put in, and then the messages are exchanged.
 pub fn take_step(
     w: &mut World,
     ss: &mut [Server; 4],
@@ -87,8 +87,10 @@ pub fn take_step(
         ms[from],
         action_of(s),
     );
-    let mut refusal = d.refusal;
-    let mut taken = d.taken;
+    if d.refusal != 0 {
+        return (d.refusal, 0);
+    }
+    let taken = d.taken;
     let mut outcome = 0;
     let mut sent = nothing();
     let happens = d.happens;
@@ -101,33 +103,29 @@ pub fn take_step(
         Deed::Serves(k, e) => {
             let at = k as usize;
             let x = served_at(w.config, w.time, w.offsets[at], k, ss[at], e);
-            if room_for(w.waiting, taken, x.outbox.count) {
-                ss[at] = x.after;
-                w.notices = notices_after(*w, k, e);
-                sent = x.outbox;
-                outcome = u32::from(x.outcome);
-            } else {
-                refusal = 13;
-                taken = false;
+            if !room_for(w.waiting, taken, x.outbox.count) {
+                return (13, 0);
             }
+            ss[at] = x.after;
+            w.notices = notices_after(*w, k, e);
+            sent = x.outbox;
+            outcome = u32::from(x.outcome);
         }
         Deed::Asks(i, e) => {
             let at = i as usize;
             let x = asked_in(*w, i, ys[at], e);
-            if room_for(w.waiting, taken, x.outbox.count) {
-                ys[at] = x.after;
-                w.next = next_after(w.next, e);
-                sent = x.outbox;
-                outcome = u32::from(x.outcome);
-            } else {
-                refusal = 13;
-                taken = false;
+            if !room_for(w.waiting, taken, x.outbox.count) {
+                return (13, 0);
             }
+            ys[at] = x.after;
+            w.next = next_after(w.next, e);
+            sent = x.outbox;
+            outcome = u32::from(x.outcome);
         }
     }
     exchange(ms, s.first, w.waiting, taken, &sent);
     w.waiting = waiting_then(w.waiting, taken, sent.count);
-    (refusal, outcome)
+    (0, outcome)
 }
 
 // A step of a facade that is in range.
@@ -148,8 +146,8 @@ fn step_in_range(f: Facade, s: Step) -> Answer
         malformed(action_of(s)),
     );
     Answer {
-        refusal: refusal,
-        outcome: outcome,
+        refusal,
+        outcome,
         facade: facade_of(w, ss, ys, ms),
     }
 }

@@ -165,7 +165,7 @@ impl Flat for Message {
     }
 }
 
-// None, or an interaction and a number: the same in a reservation and in an open write.
+// None, or an interaction and a clock reading.
 #[tactic(auto, unfolding(crate::specs::Flat::reserved_of))]
 fn reservation_in(l: &[u32], at: usize) -> Option<Reservation>
     requires { at + 3 ≤ length l.now }

@@ -34,16 +34,10 @@ pub fn begin(s: &[u8], out: &mut [u8]) -> Piece
     };
     if h.refusal != 0 {
         let end = put_record_line(out, 0, 0, h.refusal, 0, 0, 0);
-        return Piece {
-            progress: r,
-            end: end,
-        };
+        return Piece { progress: r, end };
     }
     let end = put_facade_line(out, 0, h.config);
-    Piece {
-        progress: r,
-        end: end,
-    }
+    Piece { progress: r, end }
 }
 
 // The next piece of a run under way: the lines of 2,048 turns, put at the front of the buffer.

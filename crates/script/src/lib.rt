@@ -148,7 +148,7 @@ fn step_in(r: &[u8]) -> Step
     let kind = wide(r[0]);
     let n = fields_of(kind);
     Step {
-        kind: kind,
+        kind,
         first: field_in(r, n, 0),
         second: field_in(r, n, 1),
         third: field_in(r, n, 2),
@@ -227,8 +227,8 @@ pub fn record_at(s: &[u8], p: usize) -> Record
     let step = d.step;
     Record {
         refusal: d.refusal,
-        step: step,
-        next: next,
+        step,
+        next,
     }
 }
 

@@ -162,7 +162,7 @@ fn binding_at(s: &Server, at: usize) -> Binding
     }
 }
 
-// That is put in place of what it kept.
+// What the server keeps for that address becomes b.
 fn put_binding(s: &mut Server, at: usize, b: Binding)
     requires { at < 32 }
     ensures { s.new ≡ with_binding s.old at b }

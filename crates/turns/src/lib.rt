@@ -50,12 +50,9 @@ fn piece_of(
         facade: f,
         place: p,
         number: k,
-        ended: ended,
+        ended,
     };
-    Piece {
-        progress: r,
-        end: end,
-    }
+    Piece { progress: r, end }
 }
 
 // The lines that end a run at record k are put: that of the record, unless the script is over, and the last one.

@@ -8,10 +8,11 @@ use mir.Facts.{to_z-of_z}
 use lib.ListN.{get_or}
 use Rattle.rules.specs.Parts.{no_client, no_message}
 use Rattle.world.proofs.Laws.{place_low, next_high}
+use Rattle.facade.proofs.Laws.{is_refused_so}
 use Rattle.facade.proofs.Doing.{Did, Turn, c_ok, did_rest, passed_fits, did_pass, noticed_fits, served_offset, served_fits, served_low, few_sent, serves_full, did_serve, asked_fits, asked_low, few_said, asks_full, did_ask, asked_of, exchange_fits, waiting_fits, all_put, held_by}
 use Rattle.facade.proofs.take_step.Goals as goal
 use Rattle.facade.proofs.take_step.Goals.{After-decided-d, Joined-happens}
-use Rattle.facade.proofs.take_step.Goals.{in-Rests, in-Passes, in-Serves+then-room_for, in-Serves+else-room_for, in-Asks+then-room_for-2, in-Asks+else-room_for-2}
+use Rattle.facade.proofs.take_step.Goals.{in-Rests, in-Passes, in-Serves+else-not-room_for, in-Asks+else-not-room_for-2}
 
 pub offset_bounds-ys-near : goal.offset_bounds-ys-near
 offset_bounds-ys-near c = omega (arith, place_low 32 _ _ (omega arith) c.place_below-near.ensures)
@@ -42,6 +43,9 @@ turn c =
       is = rw c.action_of.ensures at c.decided-d.ensures;
     }
 
+pub returns-then-d-ne0 : goal.returns-then-d-ne0
+returns-then-d-ne0 c = let it = turn (goal.at.returns-then-d-ne0 c).After-decided-d in is_refused_so it.hand it.is c.if-d-ne0.true
+
 pub moved_in-requires : goal.moved_in-requires
 moved_in-requires c =
     let fit : SFits w32 c.in-Passes.e = search rules in
@@ -64,8 +68,8 @@ room_for-requires c =
     let it = turn (goal.at.room_for-requires c).After-decided-d in
     asked_of it (few_sent it _ _ c.in-Serves.is (rw (served_offset it _ _ c.in-Serves.is) at c.served_at-x.ensures))
 
-pub bounds-ss-at-then-room_for : goal.bounds-ss-at-then-room_for
-bounds-ss-at-then-room_for c = served_low (turn (goal.at.bounds-ss-at-then-room_for c).After-decided-d) _ _ c.in-Serves.is
+pub bounds-ss-at-in-Serves : goal.bounds-ss-at-in-Serves
+bounds-ss-at-in-Serves c = served_low (turn (goal.at.bounds-ss-at-in-Serves c).After-decided-d) _ _ c.in-Serves.is
 
 pub notices_after-w-requires : goal.notices_after-w-requires
 notices_after-w-requires c = noticed_fits (turn (goal.at.notices_after-w-requires c).After-decided-d) _ _ c.in-Serves.is
@@ -81,34 +85,40 @@ room_for-requires-in-Asks c =
     let it = turn (goal.at.room_for-requires-in-Asks c).After-decided-d in
     asked_of it (few_said it _ _ c.in-Asks.is c.asked_in-x.ensures)
 
-pub bounds-ys-at-then-room_for-2 : goal.bounds-ys-at-then-room_for-2
-bounds-ys-at-then-room_for-2 c = asked_low (turn (goal.at.bounds-ys-at-then-room_for-2 c).After-decided-d) _ _ c.in-Asks.is
+pub bounds-ys-at-in-Asks : goal.bounds-ys-at-in-Asks
+bounds-ys-at-in-Asks c = asked_low (turn (goal.at.bounds-ys-at-in-Asks c).After-decided-d) _ _ c.in-Asks.is
 
 pub next_after-w-requires : goal.next_after-w-requires
 next_after-w-requires c = next_high _ c.requires.0
+
+pub returns-then-not-room_for : goal.returns-then-not-room_for
+returns-then-not-room_for c =
+    let it = turn (goal.at.returns-then-not-room_for c).After-decided-d in
+    let is = c.in-Serves.is in
+    serves_full it _ _ is (rw (served_offset it _ _ is) at c.served_at-x.ensures) c.room_for.ensures c.if-d-ne0.false c.if-not-room_for.true
+
+pub returns-then-not-room_for-2 : goal.returns-then-not-room_for-2
+returns-then-not-room_for-2 c =
+    let it = turn (goal.at.returns-then-not-room_for-2 c).After-decided-d in
+    asks_full it _ _ c.in-Asks.is c.asked_in-x.ensures c.room_for-in-Asks.ensures c.if-d-ne0.false c.if-not-room_for-2.true
 
 -- what was done, by which way the code came
 did : (c : Joined-happens)
     → let a = c.args in
     Turn a.w.now a.ss.now a.ys.now a.ms.now a.s c.decided-d.result
-    → Did a.w.now a.ss.now a.ys.now a.ms.now a.s c.match-happens.refusal c.match-happens.taken c.match-happens.w c.match-happens.ss c.match-happens.ys c.match-happens.sent c.match-happens.outcome
+    → Did a.w.now a.ss.now a.ys.now a.ms.now a.s c.decided-d.result.taken c.match-happens.w c.match-happens.ss c.match-happens.ys c.match-happens.sent c.match-happens.outcome
 did c it =
     let none = c.nothing-sent.ensures in
     elim c.match-happens.branch [
-      | in-Rests w ↦ held_by (did_rest it w.in-Rests.is) w.refusal-is w.taken-is w.w-is w.ss-is w.ys-is (w.sent-is ∙ none) w.outcome-is
+      | in-Rests w ↦ held_by (did_rest it c.if-d-ne0.false w.in-Rests.is) w.w-is w.ss-is w.ys-is (w.sent-is ∙ none) w.outcome-is
       | in-Passes w ↦
           let fit : SFits w32 w.in-Passes.e = search rules in
-          held_by (did_pass it _ _ _ w.in-Passes.is (rw (to_z-of_z fit) at w.moved_in.ensures) w.holds_ended.ensures) w.refusal-is w.taken-is w.w-is w.ss-is w.ys-is (w.sent-is ∙ none) w.outcome-is
-      | in-Serves+then-room_for w ↦
+          held_by (did_pass it _ _ _ w.in-Passes.is c.if-d-ne0.false (rw (to_z-of_z fit) at w.moved_in.ensures) w.holds_ended.ensures) w.w-is w.ss-is w.ys-is (w.sent-is ∙ none) w.outcome-is
+      | in-Serves+else-not-room_for w ↦
           let is = w.in-Serves.is in
-          held_by (did_serve it _ _ is (rw (served_offset it _ _ is) at w.served_at-x.ensures) w.room_for.ensures w.if-room_for.true w.notices_after-w.ensures) w.refusal-is w.taken-is w.w-is w.ss-is w.ys-is w.sent-is (w.outcome-is ∙ w.from-outcome.ensures)
-      | in-Serves+else-room_for w ↦
-          let is = w.in-Serves.is in
-          held_by (serves_full it _ _ is (rw (served_offset it _ _ is) at w.served_at-x.ensures) w.room_for.ensures w.if-room_for.false) w.refusal-is w.taken-is w.w-is w.ss-is w.ys-is (w.sent-is ∙ none) w.outcome-is
-      | in-Asks+then-room_for-2 w ↦
-          held_by (did_ask it _ _ w.in-Asks.is w.asked_in-x.ensures w.room_for-in-Asks.ensures w.if-room_for-2.true w.next_after-w.ensures) w.refusal-is w.taken-is w.w-is w.ss-is w.ys-is w.sent-is (w.outcome-is ∙ w.from-outcome-then-room_for-2.ensures)
-      | in-Asks+else-room_for-2 w ↦
-          held_by (asks_full it _ _ w.in-Asks.is w.asked_in-x.ensures w.room_for-in-Asks.ensures w.if-room_for-2.false) w.refusal-is w.taken-is w.w-is w.ss-is w.ys-is (w.sent-is ∙ none) w.outcome-is
+          held_by (did_serve it _ _ is (rw (served_offset it _ _ is) at w.served_at-x.ensures) w.room_for.ensures c.if-d-ne0.false w.if-not-room_for.false w.notices_after-w.ensures) w.w-is w.ss-is w.ys-is w.sent-is (w.outcome-is ∙ w.from-outcome.ensures)
+      | in-Asks+else-not-room_for-2 w ↦
+          held_by (did_ask it _ _ w.in-Asks.is w.asked_in-x.ensures w.room_for-in-Asks.ensures c.if-d-ne0.false w.if-not-room_for-2.false w.next_after-w.ensures) w.w-is w.ss-is w.ys-is w.sent-is (w.outcome-is ∙ w.from-outcome-in-Asks.ensures)
     ]
 
 pub exchange-requires : goal.exchange-requires
