@@ -113,18 +113,19 @@ pub fn take_step(
         }
         Deed::Asks(i, e) => {
             let at = i as usize;
-            let x = asked_in(*w, i, ys[at], e);
-            if !room_for(w.waiting, taken, x.outbox.count) {
+            let y = asked_in(*w, i, ys[at], e);
+            if !room_for(w.waiting, taken, y.outbox.count) {
                 return (13, 0);
             }
-            ys[at] = x.after;
+            ys[at] = y.after;
             w.next = next_after(w.next, e);
-            sent = x.outbox;
-            outcome = u32::from(x.outcome);
+            sent = y.outbox;
+            outcome = u32::from(y.outcome);
         }
     }
+    let waits = waiting_then(w.waiting, taken, sent.count);
     exchange(ms, s.first, w.waiting, taken, &sent);
-    w.waiting = waiting_then(w.waiting, taken, sent.count);
+    w.waiting = waits;
     (0, outcome)
 }
 

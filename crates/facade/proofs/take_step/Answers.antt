@@ -66,7 +66,7 @@ served_at-x-requires c = served_fits (turn (goal.at.served_at-x-requires c).Afte
 pub room_for-requires : goal.room_for-requires
 room_for-requires c =
     let it = turn (goal.at.room_for-requires c).After-decided-d in
-    asked_of it (few_sent it _ _ c.in-Serves.is (rw (served_offset it _ _ c.in-Serves.is) at c.served_at-x.ensures))
+    search (rules, asked_of it (few_sent it _ _ c.in-Serves.is (rw (served_offset it _ _ c.in-Serves.is) at c.served_at-x.ensures)))
 
 pub bounds-ss-at-in-Serves : goal.bounds-ss-at-in-Serves
 bounds-ss-at-in-Serves c = served_low (turn (goal.at.bounds-ss-at-in-Serves c).After-decided-d) _ _ c.in-Serves.is
@@ -77,13 +77,13 @@ notices_after-w-requires c = noticed_fits (turn (goal.at.notices_after-w-require
 pub bounds-ys-at : goal.bounds-ys-at
 bounds-ys-at c = asked_low (turn (goal.at.bounds-ys-at c).After-decided-d) _ _ c.in-Asks.is
 
-pub asked_in-x-requires : goal.asked_in-x-requires
-asked_in-x-requires c = asked_fits (turn (goal.at.asked_in-x-requires c).After-decided-d) _ _ c.in-Asks.is
+pub asked_in-y-requires : goal.asked_in-y-requires
+asked_in-y-requires c = asked_fits (turn (goal.at.asked_in-y-requires c).After-decided-d) _ _ c.in-Asks.is
 
 pub room_for-requires-in-Asks : goal.room_for-requires-in-Asks
 room_for-requires-in-Asks c =
     let it = turn (goal.at.room_for-requires-in-Asks c).After-decided-d in
-    asked_of it (few_said it _ _ c.in-Asks.is c.asked_in-x.ensures)
+    asked_of it (few_said it _ _ c.in-Asks.is c.asked_in-y.ensures)
 
 pub bounds-ys-at-in-Asks : goal.bounds-ys-at-in-Asks
 bounds-ys-at-in-Asks c = asked_low (turn (goal.at.bounds-ys-at-in-Asks c).After-decided-d) _ _ c.in-Asks.is
@@ -100,7 +100,7 @@ returns-then-not-room_for c =
 pub returns-then-not-room_for-2 : goal.returns-then-not-room_for-2
 returns-then-not-room_for-2 c =
     let it = turn (goal.at.returns-then-not-room_for-2 c).After-decided-d in
-    asks_full it _ _ c.in-Asks.is c.asked_in-x.ensures c.room_for-in-Asks.ensures c.if-d-ne0.false c.if-not-room_for-2.true
+    asks_full it _ _ c.in-Asks.is c.asked_in-y.ensures c.room_for-in-Asks.ensures c.if-d-ne0.false c.if-not-room_for-2.true
 
 -- what was done, by which way the code came
 did : (c : Joined-happens)
@@ -118,14 +118,14 @@ did c it =
           let is = w.in-Serves.is in
           held_by (did_serve it _ _ is (rw (served_offset it _ _ is) at w.served_at-x.ensures) w.room_for.ensures c.if-d-ne0.false w.if-not-room_for.false w.notices_after-w.ensures) w.w-is w.ss-is w.ys-is w.sent-is (w.outcome-is ∙ w.from-outcome.ensures)
       | in-Asks+else-not-room_for-2 w ↦
-          held_by (did_ask it _ _ w.in-Asks.is w.asked_in-x.ensures w.room_for-in-Asks.ensures c.if-d-ne0.false w.if-not-room_for-2.false w.next_after-w.ensures) w.w-is w.ss-is w.ys-is w.sent-is (w.outcome-is ∙ w.from-outcome-in-Asks.ensures)
+          held_by (did_ask it _ _ w.in-Asks.is w.asked_in-y.ensures w.room_for-in-Asks.ensures c.if-d-ne0.false w.if-not-room_for-2.false w.next_after-w.ensures) w.w-is w.ss-is w.ys-is w.sent-is (w.outcome-is ∙ w.from-outcome-in-Asks.ensures)
     ]
 
 pub exchange-requires : goal.exchange-requires
 exchange-requires c = exchange_fits (did (goal.at.exchange-requires c).Joined-happens (turn (goal.at.exchange-requires c).After-decided-d))
 
-pub waiting_then-w-requires : goal.waiting_then-w-requires
-waiting_then-w-requires c = waiting_fits (did (goal.at.waiting_then-w-requires c).Joined-happens (turn (goal.at.waiting_then-w-requires c).After-decided-d))
+pub waiting_then-waits-requires : goal.waiting_then-waits-requires
+waiting_then-waits-requires c = waiting_fits (did (goal.at.waiting_then-waits-requires c).Joined-happens (turn (goal.at.waiting_then-waits-requires c).After-decided-d))
 
 pub returns : goal.returns
-returns c = all_put (did (goal.at.returns c).Joined-happens (turn (goal.at.returns c).After-decided-d)) c.waiting_then-w.ensures c.exchange.ensures
+returns c = all_put (did (goal.at.returns c).Joined-happens (turn (goal.at.returns c).After-decided-d)) c.waiting_then-waits.ensures c.exchange.ensures

@@ -1,6 +1,8 @@
 use mathlib.Core.Path.{ap}
+use Prim.Native.Nat.{suc}
 use native.Mathlib.Omega.{arith}
 use lib.ListN.{length}
+use Rattle.std.proofs.lemmas.Fmt.{length-decimal-le}
 use Rattle.wire.proofs.Over.{over_one}
 use Rattle.report.proofs.Laws.{digits_one, decimal_is, count_is, written_over}
 use Rattle.report.proofs.put_digits.Goals as goal
@@ -15,8 +17,8 @@ returns-then-n-lt10-clause-out_after c =
 pub write_digits-requires : goal.write_digits-requires
 write_digits-requires c =
     let d = c.ilog10.ensures in
-    let count = count_is c.args.n c.ilog10.result (omega arith) d.bound d.power_le d.next_power_gt in
-    rw c.from.ensures (omega (arith, count), omega arith)
+    let few = length-decimal-le (suc c.ilog10.result) c.from.result (omega arith) (omega (arith, c.from.ensures, d.next_power_gt)) (omega (arith, c.from.ensures)) in
+    (omega (arith, few), omega (arith, d.bound))
 
 pub returns-clause-value : goal.returns-clause-value
 returns-clause-value c =
