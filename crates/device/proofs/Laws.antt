@@ -9,22 +9,16 @@ use Rattle.types.specs.declared.Config.{Config}
 use Rattle.types.specs.declared.Server.{Server}
 use Rattle.types.specs.declared.State.{State}
 use Rattle.types.specs.declared.State.TheVariants.{Idle}
-use Rattle.types.specs.declared.Client.{Client}
 use Rattle.types.specs.declared.Message.{Message}
-use Rattle.types.specs.declared.Outbox.{Outbox}
-use Rattle.types.specs.declared.Outcome.TheVariants.{Done}
 use Rattle.types.specs.declared.Reaction.{Reaction}
 use Rattle.rules.specs.Conditions.{◌and◌, unless}
 use Rattle.rules.specs.Views.{View}
-use Rattle.rules.specs.Ranges.{config_in_range, last_time, reading_in_range, server_in_range, state_in_range, is_server, body_in_range, message_in_range, after_last}
-use Rattle.rules.specs.Messages.{nothing}
-use Rattle.rules.specs.Client.{reply, lapsed}
+use Rattle.rules.specs.Ranges.{is_server, body_in_range, message_in_range}
 use Rattle.rules.specs.Steps.{Action, notice, is_known, fields_in_range, malformed, exists, state_allows, interaction_left}
 use Rattle.rules.proofs.Laws.{and_l, and_r, unless_ok}
 use Rattle.rules.proofs.Kept.{Configured, configured}
-use Rattle.device.specs.declared.ServerReply.{ServerReply}
-use Rattle.device.specs.declared.ClientReply.{ClientReply}
-use Rattle.device.specs.Device.{seen, device_refusal, own_refusal, message_fits, server_fits, server_took, server_refused, server_guarded, client_fits, client_took, client_refused, client_guarded}
+use Rattle.device.specs.declared.Reply.{Reply}
+use Rattle.device.specs.Device.{seen, device_refusal, own_refusal, message_fits, server_fits, took, refused, guarded, client_fits}
 
 -- The refusals.
 
@@ -108,44 +102,18 @@ module _ (c : Config) (r : ℕ) (x : State) where
       → device_refusal fits v a ≡ 0 → Configured c × (i < c.clients)
   asked_told i fits v a f g e = let t = device_told fits v a e in (client_told (f t.0), ltb→lt i _ (g t.1))
 
--- The tests in the order that the code makes them.
-
-pub server_fits_is : (c : Config) (r : ℕ) (s : Server) (v z : Bool)
-    → config_in_range c ≡ true → v ≡ server_in_range c last_time after_last s → z ≡ (reading_in_range r and v) → z ≡ server_fits c r s
-unfolding server_fits ◌and◌
-server_fits_is c r s v z h d e = rw (h, e, d)
-
-pub client_fits_is : (c : Config) (r : ℕ) (x : State) (u v w z : Bool)
-    → v ≡ state_in_range c after_last x → w ≡ (reading_in_range r and v) → u ≡ config_in_range c → z ≡ (u and w) → z ≡ client_fits c r x
-unfolding client_fits
-client_fits_is c r x u v w z d e h g = rw (g, h, e, d)
-
 -- the first of two tests that hold
 pub first_holds : (a b : Bool) → (a and b) ≡ true → a ≡ true
 unfolding ◌and◌
 first_holds true b e = refl
 first_holds false b e = e
 
--- two tests that the code made at once, with value v
-pub both_is : (a b p q t v : Bool) → t ≡ (p and q) → p ≡ a → q ≡ b → t ≡ v → (a and b) ≡ v
-both_is a b p q t v e d h k = rw (← d, ← h, ← e, k)
+-- The answer x where the refusal n is 0, and else p as before. The code has the refusal as m.
+module _ {A : Type 0} (n m : ℕ) (e : m ≡ n) (p : A) (x : Reaction A) (z : Reply A) where
+  pub takes : (w : Reaction A) → z ≡ took w → w ≡ x → m ≡ 0 → z ≡ guarded n p x
+  unfolding guarded
+  takes w d h o = rw (← e, o, d, h)
 
--- The answer x where the refusal n is 0, and else the party as it was. The code has the refusal as m.
-module _ (n m : ℕ) (e : m ≡ n) where
-  module _ (s : Server) (x : Reaction Server) (z : ServerReply) where
-    pub server_takes : (w : Reaction Server) → z ≡ server_took w → w ≡ x → m ≡ 0 → z ≡ server_guarded n s x
-    unfolding server_guarded
-    server_takes w d h o = rw (← e, o, d, h)
-
-    pub server_refuses : z ≡ server_refused s m → (m ≡ 0 → ⊥) → z ≡ server_guarded n s x
-    unfolding server_guarded
-    server_refuses d o = rw (← e, ne_eqb m 0 o) d
-
-  module _ (y : Client) (x : Reaction Client) (z : ClientReply) where
-    pub client_takes : (w : Reaction Client) → z ≡ client_took w → w ≡ x → m ≡ 0 → z ≡ client_guarded n y x
-    unfolding client_guarded
-    client_takes w d h o = rw (← e, o, d, h)
-
-    pub client_refuses : z ≡ client_refused y m → (m ≡ 0 → ⊥) → z ≡ client_guarded n y x
-    unfolding client_guarded
-    client_refuses d o = rw (← e, ne_eqb m 0 o) d
+  pub refuses : z ≡ refused p m → (m ≡ 0 → ⊥) → z ≡ guarded n p x
+  unfolding guarded
+  refuses d o = rw (← e, ne_eqb m 0 o) d

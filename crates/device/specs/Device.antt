@@ -19,8 +19,7 @@ use Rattle.rules.specs.Messages.{nothing, answer}
 use Rattle.rules.specs.Server.{noticed, after_return, cleaned, server_receives}
 use Rattle.rules.specs.Client.{reply, lapsed, discovers, requests, renews, client_receives}
 use Rattle.rules.specs.Steps.{Action, notice, discover, request, renew, malformed, exists, state_allows, interaction_left}
-use Rattle.device.specs.declared.ServerReply.{ServerReply}
-use Rattle.device.specs.declared.ClientReply.{ClientReply}
+use Rattle.device.specs.declared.Reply.{Reply}
 
 -- The refusals: those of the paper that a device can tell by what it is handed.
 
@@ -53,73 +52,64 @@ own_refusal fits there = unless fits 2 (unless there 6 0)
 unfoldable pub message_fits : Config → ℕ → Message → Bool
 message_fits c p m = eqb m.receiver p and message_in_range c after_last m
 
+-- The answers, of a server or a client p.
+
+abbrev pub took : {T : Type 0} → Reaction T → Reply T
+took x = record { refusal = 0; answer = x }
+
+-- who is refused is as before, and sends nothing
+abbrev pub refused : {T : Type 0} → T → ℕ → Reply T
+refused p n = record { refusal = n; answer = answer p Done nothing }
+
+-- the answer x where nothing is refused
+unfoldable pub guarded : {T : Type 0} → ℕ → T → Reaction T → Reply T
+guarded n p x = cond (eqb n 0) (took x) (refused p n)
+
 -- A server.
 
 -- "A number of a configuration or of a facade handed in is outside its range."
 unfoldable pub server_fits : Config → ℕ → Server → Bool
 server_fits c r s = config_in_range c and reading_in_range r and server_in_range c last_time after_last s
 
-abbrev pub server_took : Reaction Server → ServerReply
-server_took x = record { refusal = 0; answer = x }
-
--- a refused server is as it was, and sends nothing
-abbrev pub server_refused : Server → ℕ → ServerReply
-server_refused s n = record { refusal = n; answer = answer s Done nothing }
-
--- the answer x where nothing is refused
-unfoldable pub server_guarded : ℕ → Server → Reaction Server → ServerReply
-server_guarded n s x = cond (eqb n 0) (server_took x) (server_refused s n)
-
-unfoldable pub device_receives : Config → ℕ → ℕ → Server → Message → ServerReply
+unfoldable pub device_receives : Config → ℕ → ℕ → Server → Message → Reply Server
 device_receives c k r s m =
-    server_guarded (own_refusal (server_fits c r s and message_fits c k m) (is_server c k)) s (server_receives c k r s m)
+    guarded (own_refusal (server_fits c r s and message_fits c k m) (is_server c k)) s (server_receives c k r s m)
 
 -- a server sees no interaction and no client
-unfoldable pub device_noticed : Config → ℕ → ℕ → Server → ℕ → ℕ → ServerReply
+unfoldable pub device_noticed : Config → ℕ → ℕ → Server → ℕ → ℕ → Reply Server
 device_noticed c k r s about says =
-    server_guarded (device_refusal (server_fits c r s) (seen c 0 Idle) (notice k about says)) s (noticed c k r s about says)
+    guarded (device_refusal (server_fits c r s) (seen c 0 Idle) (notice k about says)) s (noticed c k r s about says)
 
 -- whether it was dead is not tested
-unfoldable pub device_returned : Config → ℕ → ℕ → Server → ServerReply
-device_returned c k r s = server_guarded (own_refusal (server_fits c r s) (is_server c k)) s (after_return r s)
+unfoldable pub device_returned : Config → ℕ → ℕ → Server → Reply Server
+device_returned c k r s = guarded (own_refusal (server_fits c r s) (is_server c k)) s (after_return r s)
 
-unfoldable pub device_cleaned : Config → ℕ → ℕ → Server → ServerReply
-device_cleaned c k r s = server_guarded (own_refusal (server_fits c r s) (is_server c k)) s (cleaned c r s)
+unfoldable pub device_cleaned : Config → ℕ → ℕ → Server → Reply Server
+device_cleaned c k r s = guarded (own_refusal (server_fits c r s) (is_server c k)) s (cleaned c r s)
 
 -- A client.
 
 unfoldable pub client_fits : Config → ℕ → State → Bool
 client_fits c r x = config_in_range c and reading_in_range r and state_in_range c after_last x
 
-abbrev pub client_took : Reaction Client → ClientReply
-client_took x = record { refusal = 0; answer = x }
-
--- a refused client is as it was, and sends nothing
-abbrev pub client_refused : Client → ℕ → ClientReply
-client_refused y n = record { refusal = n; answer = reply y.state Done nothing }
-
--- the answer x where nothing is refused
-unfoldable pub client_guarded : ℕ → Client → Reaction Client → ClientReply
-client_guarded n y x = cond (eqb n 0) (client_took x) (client_refused y n)
-
-unfoldable pub device_hears : Config → ℕ → ℕ → Client → Message → ClientReply
+unfoldable pub device_hears : Config → ℕ → ℕ → Client → Message → Reply Client
 device_hears c i r y m =
-    client_guarded (own_refusal (client_fits c r y.state and message_fits c (client_party c i) m) (ltb i c.clients)) y (client_receives r y.state m)
+    guarded (own_refusal (client_fits c r y.state and message_fits c (client_party c i) m) (ltb i c.clients)) y (client_receives r y.state m)
 
 -- q is the new interaction: κ "starts at 1"
-unfoldable pub device_discovers : Config → ℕ → ℕ → Client → ℕ → ClientReply
+unfoldable pub device_discovers : Config → ℕ → ℕ → Client → ℕ → Reply Client
 device_discovers c i r y q =
-    client_guarded (device_refusal (client_fits c r y.state and leb 1 q) (seen c q y.state) (discover i)) y (discovers c i y.state q)
+    guarded (device_refusal (client_fits c r y.state and leb 1 q) (seen c q y.state) (discover i)) y (discovers c i y.state q)
 
 -- t is the wanted end; a request takes no new interaction
-unfoldable pub device_requests : Config → ℕ → ℕ → Client → ℕ → ClientReply
+unfoldable pub device_requests : Config → ℕ → ℕ → Client → ℕ → Reply Client
 device_requests c i r y t =
-    client_guarded (device_refusal (client_fits c r y.state) (seen c 0 y.state) (request i t)) y (requests c i y.state t)
+    guarded (device_refusal (client_fits c r y.state) (seen c 0 y.state) (request i t)) y (requests c i y.state t)
 
-unfoldable pub device_renews : Config → ℕ → ℕ → Client → ℕ → ℕ → ClientReply
+unfoldable pub device_renews : Config → ℕ → ℕ → Client → ℕ → ℕ → Reply Client
 device_renews c i r y t q =
-    client_guarded (device_refusal (client_fits c r y.state and leb 1 q) (seen c q y.state) (renew i t)) y (renews c i y.state t q)
+    guarded (device_refusal (client_fits c r y.state and leb 1 q) (seen c q y.state) (renew i t)) y (renews c i y.state t q)
 
 -- time passes: a hold whose end is not above the clock ends
-unfoldable pub device_lapses : Config → ℕ → ℕ → Client → ClientReply
-device_lapses c i r y = client_guarded (own_refusal (client_fits c r y.state) (ltb i c.clients)) y (reply (lapsed r y.state) Done nothing)
+unfoldable pub device_lapses : Config → ℕ → ℕ → Client → Reply Client
+device_lapses c i r y = guarded (own_refusal (client_fits c r y.state) (ltb i c.clients)) y (reply (lapsed r y.state) Done nothing)

@@ -45,10 +45,6 @@ message_length b m e =
     let t : T (b and codes_message m) = rw e tt in
     its_length message_numbers (λ l. message_in l 0) 7 m (and_r b (codes_message m) t)
 
--- the tests in the order that the code makes them
-pub tests_are : (p q b v w z : Bool) → v ≡ b → w ≡ (q and v) → z ≡ (p and w) → z ≡ (p and q and b)
-tests_are p q b v w z d e f = rw (f, e, d)
-
 -- What is left of the lists p and o, and the outcome.
 module _ (refusal : ℕ) (numbers : List ℕ) (messages : Outbox) (outcome : ℕ) (p o : List ℕ) where
   pub refused : (refusal ≡ 0 → ⊥) → leaves refusal p o 0 ≡ party_left refusal numbers messages outcome p o

@@ -5,12 +5,13 @@
 -- c, s, y and m are the lists of the configuration, the server, the client and the message; o is the list for what is sent.
 -- k is a server's number, i a client's, r the clock reading.
 use Rattle.std.specs.Prelude.{Bool, cond, List, ℕ, eqb, length}
+use Rattle.types.specs.declared.Server.{Server}
+use Rattle.types.specs.declared.Client.{Client}
 use Rattle.types.specs.declared.Outbox.{Outbox}
 use Rattle.types.specs.Numbers.{outcome_number}
 use Rattle.rules.specs.Conditions.{◌and◌}
 use Rattle.flat.specs.Flat.{config_in, server_numbers, server_in, client_numbers, client_in, message_in, outbox_numbers, codes_server, codes_client, codes_message}
-use Rattle.device.specs.declared.ServerReply.{ServerReply}
-use Rattle.device.specs.declared.ClientReply.{ClientReply}
+use Rattle.device.specs.declared.Reply.{Reply}
 use Rattle.device.specs.Device.{device_receives, device_noticed, device_returned, device_cleaned, device_hears, device_discovers, device_requests, device_renews, device_lapses}
 
 -- What a call leaves: the refusal that it returns, the list of the server or client, what is sent, and the outcome.
@@ -30,7 +31,7 @@ party_left refusal numbers messages outcome p o =
 
 -- A server: b is whether the lists code what they stand for, x what the device replies.
 
-abbrev pub server_left : Bool → ServerReply → List ℕ → List ℕ → Left
+abbrev pub server_left : Bool → Reply Server → List ℕ → List ℕ → Left
 server_left b x s o = party_left (cond b x.refusal 2) (server_numbers x.answer.after) x.answer.outbox (outcome_number x.answer.outcome) s o
 
 unfoldable pub are_server_lists : List ℕ → List ℕ → List ℕ → Bool
@@ -51,7 +52,7 @@ clean_up_left c k r s o = server_left (are_server_lists c s o) (device_cleaned (
 
 -- A client.
 
-abbrev pub client_left : Bool → ClientReply → List ℕ → List ℕ → Left
+abbrev pub client_left : Bool → Reply Client → List ℕ → List ℕ → Left
 client_left b x y o = party_left (cond b x.refusal 2) (client_numbers x.answer.after) x.answer.outbox (outcome_number x.answer.outcome) y o
 
 unfoldable pub are_client_lists : List ℕ → List ℕ → List ℕ → Bool

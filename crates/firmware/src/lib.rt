@@ -6,23 +6,26 @@
 ghost use Rattle.std.specs.Prelude.{true, ◌≡◌, length};
 ghost use Rattle.firmware.specs.Firmware.{leaves, server_left, are_server_lists, receive_message_left, take_notice_left, come_back_left, clean_up_left, client_left, are_client_lists, receive_reply_left, discover_left, request_left, renew_left, pass_time_left};
 
-use arith::both;
-use device::{ClientReply, ServerReply};
+use device::Reply;
 use flat::{client_in, config_in, message_in, server_in};
 use flatten::{codes_client, codes_message, codes_server, put_client, put_outbox, put_server};
+use types::{Client, Server};
 
 // Whether the lists code a configuration and a server, with room for what is sent.
+#[tactic(auto, using(rules::proofs::Laws::tests), unfolding(crate::specs::Firmware::are_server_lists))]
 fn are_server_lists(config: &[u32], server: &[u32], sent: &[u32]) -> bool
     ensures { result ≡ are_server_lists config.now server.now sent.now }
 {
-    both(
-        config.len() == 7,
-        both(sent.len() == 29, codes_server(server)),
-    )
+    config.len() == 7 && sent.len() == 29 && codes_server(server)
 }
 
 // The reply of a server: put where it is not refused, and else outcome 0.
-fn put_server_reply(x: ServerReply, server: &mut [u32], sent: &mut [u32], outcome: &mut u32) -> u32
+fn put_server_reply(
+    x: Reply<Server>,
+    server: &mut [u32],
+    sent: &mut [u32],
+    outcome: &mut u32,
+) -> u32
     requires server_len { length server.old ≡ 423 }
     requires sent_len { length sent.old ≡ 29 }
     ensures { leaves result server.new sent.new outcome.new ≡ server_left true x server.old sent.old }
@@ -51,10 +54,8 @@ pub extern "C" fn hoyllaqe_receive_message(
 ) -> u32
     ensures { leaves result server.new sent.new outcome.new ≡ receive_message_left config.now number reading server.old message.now sent.old }
 {
-    if !both(
-        are_server_lists(config, server, sent),
-        codes_message(message),
-    ) {
+    let fits = are_server_lists(config, server, sent) && codes_message(message);
+    if !fits {
         *outcome = 0;
         return 2;
     }
@@ -134,17 +135,20 @@ pub extern "C" fn hoyllaqe_clean_up(
 }
 
 // Whether the lists code a configuration and a client, with room for what is sent.
+#[tactic(auto, using(rules::proofs::Laws::tests), unfolding(crate::specs::Firmware::are_client_lists))]
 fn are_client_lists(config: &[u32], client: &[u32], sent: &[u32]) -> bool
     ensures { result ≡ are_client_lists config.now client.now sent.now }
 {
-    both(
-        config.len() == 7,
-        both(sent.len() == 29, codes_client(client)),
-    )
+    config.len() == 7 && sent.len() == 29 && codes_client(client)
 }
 
 // The reply of a client: put where it is not refused, and else outcome 0.
-fn put_client_reply(z: ClientReply, client: &mut [u32], sent: &mut [u32], outcome: &mut u32) -> u32
+fn put_client_reply(
+    z: Reply<Client>,
+    client: &mut [u32],
+    sent: &mut [u32],
+    outcome: &mut u32,
+) -> u32
     requires client_len { length client.old ≡ 4 }
     requires sent_len { length sent.old ≡ 29 }
     ensures { leaves result client.new sent.new outcome.new ≡ client_left true z client.old sent.old }
@@ -172,10 +176,8 @@ pub extern "C" fn hoyllaqe_receive_reply(
 ) -> u32
     ensures { leaves result client.new sent.new outcome.new ≡ receive_reply_left config.now number reading client.old message.now sent.old }
 {
-    if !both(
-        are_client_lists(config, client, sent),
-        codes_message(message),
-    ) {
+    let fits = are_client_lists(config, client, sent) && codes_message(message);
+    if !fits {
         *outcome = 0;
         return 2;
     }

@@ -1,10 +1,11 @@
 use mathlib.Core.Path.{◌≡◌, sym, ◌∙◌}
+use borrow.Author.Rules.{rules}
 use lib.Dec.{leb}
 use Rattle.rules.specs.Conditions.{◌and◌}
 use Rattle.rules.specs.Steps.{discover, exists, state_allows, interaction_left}
-use Rattle.rules.proofs.Laws.{and_l}
+use Rattle.rules.proofs.Laws.{and_l, tests}
 use Rattle.device.specs.Device.{seen, device_refusal, client_fits, device_discovers}
-use Rattle.device.proofs.Laws.{device_is, asked_told, client_takes, client_refuses}
+use Rattle.device.proofs.Laws.{device_is, asked_told, takes, refuses}
 use Rattle.device.proofs.device_discovers.Goals as goal
 use Rattle.device.proofs.device_discovers.Goals.{After-first_refusal-n}
 
@@ -13,12 +14,12 @@ number : (c : After-first_refusal-n)
     → c.first_refusal-n.result ≡ device_refusal (client_fits c.args.c c.args.r c.args.y.state and leb 1 c.args.q) (seen c.args.c c.args.q c.args.y.state) (discover c.args.i)
 unfolding exists state_allows interaction_left
 number c =
-    device_is _ _ _ _ _ _ (rw (← c.client_fits.ensures) c.both-fits.ensures)
+    device_is _ _ _ _ _ _ (rw (← c.client_fits.ensures) (search (rules, tests)))
     (rw (← c.is_holding-holds.ensures) c.client_barred-below.ensures) c.first_refusal-n.ensures
 
 pub returns-then-n-ne0 : goal.returns-then-n-ne0
 unfolding device_discovers
-returns-then-n-ne0 c = client_refuses _ _ (number (goal.at.returns-then-n-ne0 c).After-first_refusal-n) _ _ _ c.client_refused.ensures c.if-n-ne0.true
+returns-then-n-ne0 c = refuses _ _ (number (goal.at.returns-then-n-ne0 c).After-first_refusal-n) _ _ _ c.refused.ensures c.if-n-ne0.true
 
 pub discovers-requires : goal.discovers-requires
 unfolding exists
@@ -26,4 +27,4 @@ discovers-requires c = asked_told _ _ _ _ _ _ _ (λ t. and_l _ _ t) (λ t. t) (s
 
 pub returns : goal.returns
 unfolding device_discovers
-returns c = client_takes _ _ (number (goal.at.returns c).After-first_refusal-n) _ _ _ _ c.client_took.ensures c.discovers.ensures c.if-n-ne0.false
+returns c = takes _ _ (number (goal.at.returns c).After-first_refusal-n) _ _ _ _ c.took.ensures c.discovers.ensures c.if-n-ne0.false

@@ -3,7 +3,7 @@ use lib.Dec.{ltb}
 use Rattle.rules.specs.Conditions.{◌and◌}
 use Rattle.rules.specs.Parts.{client_party}
 use Rattle.device.specs.Device.{own_refusal, message_fits, client_fits, device_hears}
-use Rattle.device.proofs.Laws.{client_configured, client_takes, client_refuses}
+use Rattle.device.proofs.Laws.{client_configured, takes, refuses}
 use Rattle.device.proofs.device_hears.Goals as goal
 use Rattle.device.proofs.device_hears.Goals.{After-own_refusal-n}
 
@@ -18,8 +18,8 @@ message_fits-fits-requires c = λ h. client_configured _ _ _ (sym c.client_fits.
 
 pub returns-then-n-ne0 : goal.returns-then-n-ne0
 unfolding device_hears
-returns-then-n-ne0 c = client_refuses _ _ (number (goal.at.returns-then-n-ne0 c).After-own_refusal-n) _ _ _ c.client_refused.ensures c.if-n-ne0.true
+returns-then-n-ne0 c = refuses _ _ (number (goal.at.returns-then-n-ne0 c).After-own_refusal-n) _ _ _ c.refused.ensures c.if-n-ne0.true
 
 pub returns : goal.returns
 unfolding device_hears
-returns c = client_takes _ _ (number (goal.at.returns c).After-own_refusal-n) _ _ _ _ c.client_took.ensures c.client_receives.ensures c.if-n-ne0.false
+returns c = takes _ _ (number (goal.at.returns c).After-own_refusal-n) _ _ _ _ c.took.ensures c.client_receives.ensures c.if-n-ne0.false

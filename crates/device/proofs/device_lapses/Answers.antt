@@ -1,7 +1,7 @@
 use mathlib.Core.Path.{◌≡◌}
 use lib.Dec.{ltb}
 use Rattle.device.specs.Device.{own_refusal, client_fits, device_lapses}
-use Rattle.device.proofs.Laws.{client_takes, client_refuses}
+use Rattle.device.proofs.Laws.{takes, refuses}
 use Rattle.device.proofs.device_lapses.Goals as goal
 use Rattle.device.proofs.device_lapses.Goals.{After-own_refusal-n}
 
@@ -12,10 +12,10 @@ number c = rw (← c.client_fits.ensures) c.own_refusal-n.ensures
 
 pub returns-then-n-ne0 : goal.returns-then-n-ne0
 unfolding device_lapses
-returns-then-n-ne0 c = client_refuses _ _ (number (goal.at.returns-then-n-ne0 c).After-own_refusal-n) _ _ _ c.client_refused.ensures c.if-n-ne0.true
+returns-then-n-ne0 c = refuses _ _ (number (goal.at.returns-then-n-ne0 c).After-own_refusal-n) _ _ _ c.refused.ensures c.if-n-ne0.true
 
 pub returns : goal.returns
 unfolding device_lapses
 returns c =
-    client_takes _ _ (number (goal.at.returns c).After-own_refusal-n) _ _ _ _ c.client_took.ensures
-    (rw (← c.lapsed.ensures) c.client_done.ensures) c.if-n-ne0.false
+    takes _ _ (number (goal.at.returns c).After-own_refusal-n) _ _ _ _ c.took.ensures
+    (rw (← c.lapsed.ensures) c.done.ensures) c.if-n-ne0.false

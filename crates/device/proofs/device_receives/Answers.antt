@@ -2,7 +2,7 @@ use mathlib.Core.Path.{◌≡◌, sym, ◌∙◌}
 use Rattle.rules.specs.Conditions.{◌and◌}
 use Rattle.rules.specs.Ranges.{is_server}
 use Rattle.device.specs.Device.{own_refusal, message_fits, server_fits, device_receives}
-use Rattle.device.proofs.Laws.{server_configured, receive_told, server_takes, server_refuses}
+use Rattle.device.proofs.Laws.{server_configured, receive_told, takes, refuses}
 use Rattle.device.proofs.device_receives.Goals as goal
 use Rattle.device.proofs.device_receives.Goals.{After-own_refusal-n}
 
@@ -17,11 +17,11 @@ message_fits-fits-requires c = λ h. server_configured _ _ _ (sym c.server_fits.
 
 pub returns-then-n-ne0 : goal.returns-then-n-ne0
 unfolding device_receives
-returns-then-n-ne0 c = server_refuses _ _ (number (goal.at.returns-then-n-ne0 c).After-own_refusal-n) _ _ _ c.server_refused.ensures c.if-n-ne0.true
+returns-then-n-ne0 c = refuses _ _ (number (goal.at.returns-then-n-ne0 c).After-own_refusal-n) _ _ _ c.refused.ensures c.if-n-ne0.true
 
 pub server_receives-requires : goal.server_receives-requires
 server_receives-requires c = receive_told _ _ _ _ _ (sym (number (goal.at.server_receives-requires c).After-own_refusal-n) ∙ c.if-n-ne0.false)
 
 pub returns : goal.returns
 unfolding device_receives
-returns c = server_takes _ _ (number (goal.at.returns c).After-own_refusal-n) _ _ _ _ c.server_took.ensures c.server_receives.ensures c.if-n-ne0.false
+returns c = takes _ _ (number (goal.at.returns c).After-own_refusal-n) _ _ _ _ c.took.ensures c.server_receives.ensures c.if-n-ne0.false

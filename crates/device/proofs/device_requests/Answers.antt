@@ -1,7 +1,7 @@
 use mathlib.Core.Path.{◌≡◌, sym, ◌∙◌}
 use Rattle.rules.specs.Steps.{request, exists, state_allows, interaction_left}
 use Rattle.device.specs.Device.{seen, device_refusal, client_fits, device_requests}
-use Rattle.device.proofs.Laws.{device_is, asked_told, client_takes, client_refuses}
+use Rattle.device.proofs.Laws.{device_is, asked_told, takes, refuses}
 use Rattle.device.proofs.device_requests.Goals as goal
 use Rattle.device.proofs.device_requests.Goals.{After-first_refusal-n}
 
@@ -15,7 +15,7 @@ number c =
 
 pub returns-then-n-ne0 : goal.returns-then-n-ne0
 unfolding device_requests
-returns-then-n-ne0 c = client_refuses _ _ (number (goal.at.returns-then-n-ne0 c).After-first_refusal-n) _ _ _ c.client_refused.ensures c.if-n-ne0.true
+returns-then-n-ne0 c = refuses _ _ (number (goal.at.returns-then-n-ne0 c).After-first_refusal-n) _ _ _ c.refused.ensures c.if-n-ne0.true
 
 pub requests-requires : goal.requests-requires
 unfolding exists
@@ -23,4 +23,4 @@ requests-requires c = asked_told _ _ _ _ _ _ _ (λ t. t) (λ t. t) (sym (number 
 
 pub returns : goal.returns
 unfolding device_requests
-returns c = client_takes _ _ (number (goal.at.returns c).After-first_refusal-n) _ _ _ _ c.client_took.ensures c.requests.ensures c.if-n-ne0.false
+returns c = takes _ _ (number (goal.at.returns c).After-first_refusal-n) _ _ _ _ c.took.ensures c.requests.ensures c.if-n-ne0.false

@@ -1,7 +1,7 @@
 use mathlib.Core.Path.{◌≡◌}
 use Rattle.rules.specs.Ranges.{is_server}
 use Rattle.device.specs.Device.{own_refusal, server_fits, device_returned}
-use Rattle.device.proofs.Laws.{server_takes, server_refuses}
+use Rattle.device.proofs.Laws.{takes, refuses}
 use Rattle.device.proofs.device_returned.Goals as goal
 use Rattle.device.proofs.device_returned.Goals.{After-own_refusal-n}
 
@@ -12,8 +12,8 @@ number c = rw (← c.server_fits.ensures) c.own_refusal-n.ensures
 
 pub returns-then-n-ne0 : goal.returns-then-n-ne0
 unfolding device_returned
-returns-then-n-ne0 c = server_refuses _ _ (number (goal.at.returns-then-n-ne0 c).After-own_refusal-n) _ _ _ c.server_refused.ensures c.if-n-ne0.true
+returns-then-n-ne0 c = refuses _ _ (number (goal.at.returns-then-n-ne0 c).After-own_refusal-n) _ _ _ c.refused.ensures c.if-n-ne0.true
 
 pub returns : goal.returns
 unfolding device_returned
-returns c = server_takes _ _ (number (goal.at.returns c).After-own_refusal-n) _ _ _ _ c.server_took.ensures c.after_return.ensures c.if-n-ne0.false
+returns c = takes _ _ (number (goal.at.returns c).After-own_refusal-n) _ _ _ _ c.took.ensures c.after_return.ensures c.if-n-ne0.false

@@ -3,7 +3,7 @@ use mathlib.Core.Bool.{Bool, true}
 use native.Mathlib.Omega.{arith}
 use Rattle.types.specs.declared.Config.{Config}
 use Rattle.types.specs.declared.Client.{Client}
-use Rattle.device.specs.declared.ClientReply.{ClientReply}
+use Rattle.device.specs.declared.Reply.{Reply}
 use Rattle.device.specs.Device.{device_requests}
 use Rattle.firmware.specs.Firmware.{client_left, are_client_lists, request_left}
 use Rattle.firmware.proofs.Laws.{client_lengths, codes_nothing, reads, replied}
@@ -32,7 +32,7 @@ put_client_reply-requires c =
 pub returns : goal.returns
 unfolding request_left
 returns c =
-    replied (λ (b : Bool) (z : ClientReply). client_left b z c.args.client.now c.args.sent.now) _ _ (told (goal.at.returns c).Else-not-are_client_lists)
+    replied (λ (b : Bool) (z : Reply Client). client_left b z c.args.client.now c.args.sent.now) _ _ (told (goal.at.returns c).Else-not-are_client_lists)
     (reads (λ (f : Config) (y : Client). device_requests f c.args.number c.args.reading y c.args.wanted)
     c.config_in-c.ensures c.client_in-y.ensures c.device_requests-z.ensures)
     c.put_client_reply.ensures

@@ -3,7 +3,7 @@ use mathlib.Core.Bool.{Bool, true}
 use native.Mathlib.Omega.{arith}
 use Rattle.types.specs.declared.Config.{Config}
 use Rattle.types.specs.declared.Server.{Server}
-use Rattle.device.specs.declared.ServerReply.{ServerReply}
+use Rattle.device.specs.declared.Reply.{Reply}
 use Rattle.device.specs.Device.{device_noticed}
 use Rattle.firmware.specs.Firmware.{server_left, are_server_lists, take_notice_left}
 use Rattle.firmware.proofs.Laws.{server_lengths, codes_nothing, reads, replied}
@@ -32,7 +32,7 @@ put_server_reply-requires c =
 pub returns : goal.returns
 unfolding take_notice_left
 returns c =
-    replied (λ (b : Bool) (z : ServerReply). server_left b z c.args.server.now c.args.sent.now) _ _ (told (goal.at.returns c).Else-not-are_server_lists)
+    replied (λ (b : Bool) (z : Reply Server). server_left b z c.args.server.now c.args.sent.now) _ _ (told (goal.at.returns c).Else-not-are_server_lists)
     (reads (λ (f : Config) (s : Server). device_noticed f c.args.number c.args.reading s c.args.about c.args.says)
     c.config_in-c.ensures c.server_in-s.ensures c.device_noticed-x.ensures)
     c.put_server_reply.ensures
