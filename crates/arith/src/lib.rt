@@ -1,10 +1,12 @@
 // Leaves on tests and numbers, each proved once: refusals, bounds, offsets and clocks.
 #![tactic(auto)]
 
-ghost use Rattle.std.specs.Prelude.{◌≡◌, ◌≤◌, nat_abs, ◌+ℤ◌};
+ghost use Rattle.std.specs.Prelude.{◌≡◌, ◌≤◌, cond, Ok, Err, nat_abs, ◌+ℤ◌};
 ghost use Rattle.rules.specs.Conditions.{◌and◌, ◌or◌, is_within, unless as unless'};
 ghost use Rattle.rules.specs.Clock.{clock_reading, not_negative, as_signed};
 ghost use Rattle.rules.specs.Ranges.{last_time};
+
+use types::Refusal;
 
 // Both tests, in the order of the rules.
 pub fn both(x: bool, y: bool) -> bool
@@ -18,6 +20,13 @@ pub fn either(x: bool, y: bool) -> bool
     ensures { result ≡ (x or y) }
 {
     if x { true } else { y }
+}
+
+// Refusal n, where its test fails.
+pub fn check(ok: bool, n: Refusal) -> Result<(), Refusal>
+    ensures { result ≡ cond ok (Ok tt) (Err n) }
+{
+    if ok { Ok(()) } else { Err(n) }
 }
 
 // The number of a refusal where its test fails, and else what the refusals below it give.

@@ -1,8 +1,7 @@
 -- The waiting messages after a step, by the rules of taking out and sending.
-use Rattle.std.specs.Prelude.{Bool, cond, List, ℕ, ◌+◌, ◌-◌}
-use Rattle.types.specs.declared.Message.{Message}
-use Rattle.types.specs.declared.Outbox.{Outbox}
-use Rattle.rules.specs.Messages.{removed, sent_behind}
+use Rattle.std.specs.Prelude.{Bool, cond, ℕ, ◌+◌, ◌-◌, Option, Some, None}
+use Rattle.types.specs.declared.Facade.{Facade}
+use Rattle.rules.specs.Messages.{without}
 use Rattle.rules.specs.Steps.{has_room}
 
 -- how many of n waiting messages stay where one is taken out if `taken`
@@ -17,6 +16,7 @@ waiting_then n taken count = rest_of n taken + count
 abbrev pub room_for : ℕ → Bool → ℕ → Bool
 room_for n taken count = has_room (waiting_then n taken count)
 
--- of n waiting messages that at p is taken out if `taken`, and what o holds waits behind the rest
-abbrev pub exchanged : List Message → ℕ → ℕ → Bool → Outbox → List Message
-exchanged ms p n taken o = sent_behind (cond taken (removed ms p n) ms) (rest_of n taken) o o.count
+-- the facade without the message at a position, if one is named
+unfoldable pub taken_from : Facade → Option ℕ → Facade
+taken_from f None = f
+taken_from f (Some p) = without f p

@@ -1,11 +1,11 @@
-// The waiting messages, in the order sent: one is taken out, and what a step sends waits behind the rest.
+// The waiting messages of a facade, in the order sent: one is taken out, and what a step sends waits behind the rest.
 #![tactic(auto)]
 
-ghost use Rattle.std.specs.Prelude.{◌≡◌, ◌≤◌, ◌<◌, T};
-ghost use Rattle.rules.specs.Messages.{removed, sent_behind};
-ghost use Rattle.cable.specs.Exchange.{rest_of, waiting_then, room_for, exchanged};
+ghost use Rattle.std.specs.Prelude.{◌≡◌, ◌≤◌, ◌<◌, T, IfSome};
+ghost use Rattle.rules.specs.Messages.{removed, sent_behind, send_all};
+ghost use Rattle.cable.specs.Exchange.{rest_of, waiting_then, room_for, taken_from};
 
-use types::{MOST_WAITING, Message, Outbox};
+use types::{Facade, MOST_WAITING, Message, Outbox};
 
 // How many of n waiting messages stay, where one is taken out if `taken`.
 pub fn rest_of(n: u32, taken: bool) -> u32
@@ -56,13 +56,25 @@ fn put_behind(ms: &mut [Message; 128], w: u32, o: &Outbox)
     }
 }
 
-// Of n waiting messages that at p is taken out if `taken`, and what o holds waits behind the rest.
-pub fn exchange(ms: &mut [Message; 128], p: u32, n: u32, taken: bool, o: &Outbox)
-    requires { (n ≤ 128) × (o.now.count ≤ 4) × (T taken → p < n) }
-    ensures { ms.new ≡ exchanged ms.old p n taken o.now }
+// The message at the position that is named, if one is, is taken out.
+#[tactic(auto, unfolding(crate::specs::Exchange::taken_from))]
+pub fn take_from(f: &mut Facade, taken: Option<u32>)
+    requires { (f.old.waiting ≤ 128) × IfSome taken (λ p. p < f.old.waiting) }
+    ensures { f.new ≡ taken_from f.old taken }
 {
-    if taken {
-        take_out(ms, p, n);
+    if let Some(p) = taken {
+        let n = f.waiting;
+        take_out(&mut f.messages, p, n);
+        f.waiting = n - 1;
     }
-    put_behind(ms, rest_of(n, taken), o);
+}
+
+// What o holds waits behind the others.
+pub fn send_all(f: &mut Facade, o: &Outbox)
+    requires { (f.old.waiting ≤ 128) × (o.now.count ≤ 4) }
+    ensures { f.new ≡ send_all f.old o.now }
+{
+    let n = f.waiting;
+    put_behind(&mut f.messages, n, o);
+    f.waiting = n + o.count;
 }

@@ -168,8 +168,8 @@ pub fn client_receives(r: u32, x: State, m: Message) -> Reaction<Client>
 }
 
 // How many of these clients hold, of which the configuration says how many there are.
-pub fn held_among(c: Config, ys: [Client; 32]) -> u32
-    ensures { result ≡ held_among c ys }
+pub fn held_among(c: Config, ys: &[Client; 32]) -> u32
+    ensures { result ≡ held_among c ys.now }
 {
     ys.iter()
         .take(c.clients as usize)

@@ -1,138 +1,137 @@
-// What the rules 4 to 12 decide of a step, by what they look at: w is the world, l the lives of the servers, x the state of the
-// client that the step names.
+// What the rules 6 to 12 say of a step of a facade, and what happens in it: f is the facade.
 #![tactic(auto)]
 
-ghost use Rattle.std.specs.Prelude.{◌≡◌, false, ltb, get_or};
-ghost use Rattle.types.specs.declared.State.TheVariants.{Idle};
-ghost use Rattle.rules.specs.Conditions.{unless as unless'};
-ghost use Rattle.rules.specs.Ranges.{is_server};
-ghost use Rattle.rules.specs.Views.{at_hand};
-ghost use Rattle.rules.specs.Steps.{pass, notice, malformed, barred, broken as broken', takes_out, delivered as delivered', deed_of};
-ghost use Rattle.world.specs.Apart.{WorldInRange};
-ghost use Rattle.decisions.specs.Decided.{decided as decided'};
+ghost use Rattle.std.specs.Prelude.{◌≡◌, cond, Some, None, T, ltb};
+ghost use Rattle.types.specs.Numbers.{refusal_of};
+ghost use Rattle.rules.specs.Conditions.{unless};
+ghost use Rattle.rules.specs.Parts.{server_at, state_at, message_at};
+ghost use Rattle.rules.specs.Ranges.{is_server, in_range};
+ghost use Rattle.rules.specs.Views.{whole};
+ghost use Rattle.rules.specs.Steps.{pass, notice, malformed, barred as barred', position, takes_out, delivered as delivered', deed_of};
 
-use arith::{both, unless};
+use arith::check;
 use client::{is_holding, is_offered};
 use clocks::{are_in_touch, is_credible_notice, offset_allows};
+use outbox::no_message;
 use types::{
-    Action, Client, ClientEvent, Config, Decision, Deed, LAST_INTERACTION, LAST_TIME, Lives,
-    Message, ServerEvent, State, World,
+    Action, ClientEvent, Config, Deed, Facade, LAST_INTERACTION, LAST_TIME, Message, Refusal,
+    ServerEvent, State,
 };
 
 // Whether server k is alive; one that does not exist is not.
-fn is_alive(l: Lives, k: u32) -> bool
-    ensures { result ≡ get_or l.alive k false }
+fn is_alive(f: &Facade, k: u32) -> bool
+    ensures { result ≡ (server_at f.now k).alive }
 {
-    if k < 4 {
-        let at = k as usize;
-        return l.alive[at];
-    }
-    false
+    f.servers.get(k as usize).is_some_and(|s| s.alive)
 }
 
 // c, the true time of the last change of server k.
-fn last_change(l: Lives, k: u32) -> u32
-    ensures { result ≡ get_or l.changed k 0 }
+fn last_change(f: &Facade, k: u32) -> u32
+    ensures { result ≡ (server_at f.now k).changed }
 {
-    if k < 4 {
-        let at = k as usize;
-        return l.changed[at];
-    }
-    0
+    f.servers.get(k as usize).map_or(0, |s| s.changed)
+}
+
+// The state of client i; one that does not exist is idle.
+fn state_of(f: &Facade, i: u32) -> State
+    ensures { result ≡ state_at f.now i }
+{
+    f.clients.get(i as usize).map_or(State::Idle, |y| y.state)
 }
 
 // Refusals 6 and 7 of fail, return and cleanup of server k, which is in a state that allows it or not.
-fn server_barred(c: Config, k: u32, allowed: bool) -> u32
-    ensures { result ≡ unless' (is_server c k) 6 (unless' allowed 7 0) }
+#[tactic(auto, unfolding(rules::specs::Conditions::unless))]
+fn server_barred(c: Config, k: u32, allowed: bool) -> Result<(), Refusal>
+    ensures { refusal_of result ≡ unless (is_server c k) 6 (unless allowed 7 0) }
 {
-    unless(k < c.servers, 6, unless(allowed, 7, 0))
+    check(k < c.servers, Refusal::DoesNotExist)?;
+    check(allowed, Refusal::WrongState)
 }
 
 // Refusals 6, 7 and 12 of discover, request and renew of client i; `left` says whether a new κ, if it takes one, is left.
-pub fn client_barred(c: Config, i: u32, allowed: bool, left: bool) -> u32
-    ensures { result ≡ unless' (ltb i c.clients) 6 (unless' allowed 7 (unless' left 12 0)) }
+#[tactic(auto, unfolding(rules::specs::Conditions::unless))]
+pub fn client_barred(c: Config, i: u32, allowed: bool, left: bool) -> Result<(), Refusal>
+    ensures { refusal_of result ≡ unless (ltb i c.clients) 6 (unless allowed 7 (unless left 12 0)) }
 {
-    unless(i < c.clients, 6, unless(allowed, 7, unless(left, 12, 0)))
+    check(i < c.clients, Refusal::DoesNotExist)?;
+    check(allowed, Refusal::WrongState)?;
+    check(left, Refusal::NoInteractionLeft)
 }
 
 // Refusals 6, 7 and 11 of a notice to server k about server j.
-fn notice_barred(w: World, l: Lives, k: u32, j: u32, says: u32) -> u32
-    ensures { result ≡ barred (at_hand w l Idle) (notice k j says) 0 }
+#[tactic(auto, using(rules::proofs::Laws::tests), unfolding(rules::specs::Conditions::unless, rules::specs::Steps::barred, rules::specs::Steps::exists, rules::specs::Steps::state_allows, rules::specs::Steps::of_pass, rules::specs::Steps::of_notice, rules::specs::Steps::is_credible, rules::specs::Steps::interaction_left))]
+fn notice_barred(f: &Facade, k: u32, j: u32, says: u32) -> Result<(), Refusal>
+    ensures { refusal_of result ≡ barred' (whole f.now) (notice k j says) 0 }
 {
-    let c = w.config;
-    let named = both(k < c.servers, both(j < c.servers, !(j == k)));
-    let so = is_credible_notice(c, w.time, is_alive(l, j), last_change(l, j), says);
-    unless(named, 6, unless(is_alive(l, k), 7, unless(so, 11, 0)))
+    let c = f.config;
+    check(
+        k < c.servers && j < c.servers && j != k,
+        Refusal::DoesNotExist,
+    )?;
+    check(is_alive(f, k), Refusal::WrongState)?;
+    check(
+        is_credible_notice(c, f.time, is_alive(f, j), last_change(f, j), says),
+        Refusal::NotCredible,
+    )
 }
 
 // Refusals 6, 8, 9 and 10 of a pass.
-fn pass_barred(w: World, l: Lives, d: u32, p: u32, e: i32) -> u32
-    requires { WorldInRange w × (malformed (pass d p e) 0 ≡ 0) }
-    ensures { result ≡ barred (at_hand w l Idle) (pass d p e) 0 }
+#[tactic(auto, using(rules::proofs::Laws::tests), unfolding(rules::specs::Conditions::unless, rules::specs::Steps::barred, rules::specs::Steps::exists, rules::specs::Steps::state_allows, rules::specs::Steps::of_pass, rules::specs::Steps::time_left, rules::specs::Steps::clock_allows, rules::specs::Steps::in_touch, rules::specs::Steps::of_notice, rules::specs::Steps::interaction_left))]
+fn pass_barred(f: &Facade, d: u32, p: u32, e: i32) -> Result<(), Refusal>
+    requires { T (in_range f.now) × (malformed (pass d p e) 0 ≡ 0) }
+    ensures { refusal_of result ≡ barred' (whole f.now) (pass d p e) 0 }
 {
-    let c = w.config;
-    if c.servers + c.clients <= p {
-        return 6;
-    }
-    if LAST_TIME < w.time + d {
-        return 8;
-    }
-    let at = p as usize;
-    if !offset_allows(c, w.offsets[at], d, e) {
-        return 9;
-    }
-    let ts = w.notices;
-    let alive = l.alive;
-    if !are_in_touch(c, ts, alive, w.time + d) {
-        return 10;
-    }
-    0
+    let c = f.config;
+    check(p < c.servers + c.clients, Refusal::DoesNotExist)?;
+    check(f.time + d <= LAST_TIME, Refusal::NoTimeLeft)?;
+    check(
+        offset_allows(c, f.offsets[p as usize], d, e),
+        Refusal::ClockOff,
+    )?;
+    check(are_in_touch(f, f.time + d), Refusal::OutOfTouch)
 }
 
-// The number of the first rule that is broken, or 0; n is that of the rules 4 and 5, which the step alone can break.
-fn broken(n: u32, w: World, l: Lives, x: State, a: Action) -> u32
-    requires { WorldInRange w × (n ≡ malformed a 0) }
-    ensures { result ≡ broken' (at_hand w l x) a 0 }
+// Refusals 6 to 12.
+#[tactic(auto, unfolding(rules::specs::Conditions::unless, rules::specs::Steps::barred, rules::specs::Steps::exists, rules::specs::Steps::state_allows, rules::specs::Steps::of_pass, rules::specs::Steps::of_notice, rules::specs::Steps::interaction_left))]
+pub fn barred(f: &Facade, a: Action) -> Result<(), Refusal>
+    requires { T (in_range f.now) × (malformed a 0 ≡ 0) }
+    ensures { refusal_of result ≡ barred' (whole f.now) a 0 }
 {
-    if n != 0 {
-        return n;
-    }
-    let c = w.config;
+    let c = f.config;
+    let left = f.next <= LAST_INTERACTION;
     match a {
-        Action::Pass(d, p, e) => pass_barred(w, l, d, p, e),
-        Action::Fail(k) => server_barred(c, k, is_alive(l, k)),
-        Action::Return(k) => server_barred(c, k, !is_alive(l, k)),
-        Action::Notice(k, j, says) => notice_barred(w, l, k, j, says),
-        Action::Discover(i) => client_barred(c, i, !is_holding(x), w.next <= LAST_INTERACTION),
-        Action::Request(i, _) => client_barred(c, i, is_offered(x), true),
-        Action::Renew(i, _) => client_barred(c, i, is_holding(x), w.next <= LAST_INTERACTION),
-        Action::Deliver(p, _) => unless(p < w.waiting, 6, 0),
-        Action::Lose(p) => unless(p < w.waiting, 6, 0),
-        Action::Cleanup(k) => server_barred(c, k, is_alive(l, k)),
-        Action::Unknown => 4,
+        Action::Pass(d, p, e) => pass_barred(f, d, p, e),
+        Action::Fail(k) | Action::Cleanup(k) => server_barred(c, k, is_alive(f, k)),
+        Action::Return(k) => server_barred(c, k, !is_alive(f, k)),
+        Action::Notice(k, j, says) => notice_barred(f, k, j, says),
+        Action::Discover(i) => client_barred(c, i, !is_holding(state_of(f, i)), left),
+        Action::Request(i, _) => client_barred(c, i, is_offered(state_of(f, i)), true),
+        Action::Renew(i, _) => client_barred(c, i, is_holding(state_of(f, i)), left),
+        Action::Deliver(p, _) | Action::Lose(p) => check(p < f.waiting, Refusal::DoesNotExist),
+        Action::Unknown => Ok(()),
     }
 }
 
-// Whether the message that the step names is taken out.
-fn takes_out(x: Action) -> bool
-    ensures { result ≡ takes_out x }
+// The position of the message that a step takes out, if it takes one out.
+#[tactic(auto, unfolding(rules::specs::Steps::takes_out, rules::specs::Steps::position))]
+pub fn taken_out(a: Action) -> Option<u32>
+    ensures { result ≡ cond (takes_out a) (Some (position a)) None }
 {
-    match x {
-        Action::Pass(_, _, _) => false,
-        Action::Fail(_) => false,
-        Action::Return(_) => false,
-        Action::Notice(_, _, _) => false,
-        Action::Discover(_) => false,
-        Action::Request(_, _) => false,
-        Action::Renew(_, _) => false,
-        Action::Deliver(_, keep) => keep == 0,
-        Action::Lose(_) => true,
-        Action::Cleanup(_) => false,
-        Action::Unknown => false,
+    match a {
+        Action::Deliver(p, 0) | Action::Lose(p) => Some(p),
+        _ => None,
     }
+}
+
+// The message at position p.
+fn message_at(f: &Facade, p: u32) -> Message
+    ensures { result ≡ message_at f.now p }
+{
+    f.messages.get(p as usize).copied().unwrap_or(no_message())
 }
 
 // A message is handled by the party that it is for.
+#[tactic(auto, unfolding(rules::specs::Steps::delivered))]
 fn delivered(c: Config, m: Message) -> Deed
     ensures { result ≡ delivered' c m }
 {
@@ -143,11 +142,12 @@ fn delivered(c: Config, m: Message) -> Deed
     Deed::Asks(to - c.servers, ClientEvent::Hears(m))
 }
 
-// What happens in a step, where m is the message at the position that it names.
-fn deed_of(c: Config, m: Message, x: Action) -> Deed
-    ensures { result ≡ deed_of c m x }
+// What happens in a step.
+#[tactic(auto, unfolding(rules::specs::Steps::deed_of, rules::specs::Steps::position))]
+pub fn deed_of(f: &Facade, a: Action) -> Deed
+    ensures { result ≡ deed_of f.now.config (message_at f.now (position a)) a }
 {
-    match x {
+    match a {
         Action::Pass(d, p, e) => Deed::Passes(d, p, e),
         Action::Fail(k) => Deed::Serves(k, ServerEvent::Fails),
         Action::Return(k) => Deed::Serves(k, ServerEvent::Returns),
@@ -155,31 +155,8 @@ fn deed_of(c: Config, m: Message, x: Action) -> Deed
         Action::Discover(i) => Deed::Asks(i, ClientEvent::Discovers),
         Action::Request(i, t) => Deed::Asks(i, ClientEvent::Requests(t)),
         Action::Renew(i, t) => Deed::Asks(i, ClientEvent::Renews(t)),
-        Action::Deliver(_, _) => delivered(c, m),
-        Action::Lose(_) => Deed::Rests,
+        Action::Deliver(p, _) => delivered(f.config, message_at(f, p)),
         Action::Cleanup(k) => Deed::Serves(k, ServerEvent::CleansUp),
-        Action::Unknown => Deed::Rests,
-    }
-}
-
-// What is decided of step a, where n is the number of the rules 4 and 5, y the client and m the message that it names.
-pub fn decided(n: u32, w: World, l: Lives, y: Client, m: Message, a: Action) -> Decision
-    requires { WorldInRange w × (n ≡ malformed a 0) }
-    ensures { result ≡ decided' (at_hand w l y.state) m a }
-{
-    let state = y.state;
-    let first = broken(n, w, l, state, a);
-    if first != 0 {
-        return Decision {
-            refusal: first,
-            taken: false,
-            happens: Deed::Rests,
-        };
-    }
-    let happens = deed_of(w.config, m, a);
-    Decision {
-        refusal: 0,
-        taken: takes_out(a),
-        happens,
+        Action::Lose(_) | Action::Unknown => Deed::Rests,
     }
 }

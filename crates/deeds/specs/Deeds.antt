@@ -1,17 +1,16 @@
 -- What happens to a party, and that it is in range.
-use Rattle.std.specs.Prelude.{Bool, true, ℕ, ◌+◌, ◌≤◌, ◌<◌, T, ℤ, nat_abs}
+use Rattle.std.specs.Prelude.{Bool, true, ℕ, ◌+◌, ◌≤◌, ◌<◌, T, nat_abs}
 use Rattle.types.specs.declared.Config.{Config}
 use Rattle.types.specs.declared.Server.{Server}
 use Rattle.types.specs.declared.Client.{Client}
 use Rattle.types.specs.declared.Reaction.{Reaction}
 use Rattle.types.specs.declared.ClientEvent.{ClientEvent}
-use Rattle.types.specs.declared.World.{World}
+use Rattle.types.specs.declared.Facade.{Facade}
 use Rattle.types.specs.declared.ServerEvent.{ServerEvent}
 use Rattle.types.specs.declared.ServerEvent.TheVariants.{Fails, Returns, Notices, Receives, CleansUp}
 use Rattle.types.specs.declared.Deed.{Deed}
 use Rattle.types.specs.declared.Deed.TheVariants.{Rests, Passes, Serves, Asks}
-use Rattle.rules.specs.Clock.{clock_reading}
-use Rattle.rules.specs.Parts.{parties, clock_of, client_party}
+use Rattle.rules.specs.Parts.{server_at, state_at, parties, clock, client_party}
 use Rattle.rules.specs.Ranges.{is_server, body_in_range, last_time}
 use Rattle.rules.specs.Steps.{server_after, client_after}
 
@@ -23,17 +22,17 @@ event_in_range c k (Notices j says) = is_server c j
 event_in_range c k (Receives m) = body_in_range c m.sender k m.body
 event_in_range c k CleansUp = true
 
--- a deed in a world
-unfoldable pub DeedInRange : World → Deed → Type 0
-DeedInRange w Rests = Unit
-DeedInRange w (Passes d p e) = (w.time + d ≤ last_time) × (p < parties w.config) × (nat_abs e ≤ 2000)
-DeedInRange w (Serves k e) = (k < w.config.servers) × T (event_in_range w.config k e)
-DeedInRange w (Asks i e) = i < w.config.clients
+-- a deed in a facade
+unfoldable pub DeedInRange : Facade → Deed → Type 0
+DeedInRange f Rests = Unit
+DeedInRange f (Passes d p e) = (f.time + d ≤ last_time) × (p < parties f.config) × (nat_abs e ≤ 2000)
+DeedInRange f (Serves k e) = (k < f.config.servers) × T (event_in_range f.config k e)
+DeedInRange f (Asks i e) = i < f.config.clients
 
--- server k, whose clock is ahead by o, after an event at true time t: s is the server
-abbrev pub served_at : Config → ℕ → ℤ → ℕ → Server → ServerEvent → Reaction Server
-served_at c t o k s e = server_after c t k (clock_reading t o) s e
+-- server k of a facade after an event
+abbrev pub served : Facade → ℕ → ServerEvent → Reaction Server
+served f k e = server_after f.config f.time k (clock f k) (server_at f k) e
 
--- client i of world w after an event: y is the client
-abbrev pub asked_in : World → ℕ → Client → ClientEvent → Reaction Client
-asked_in w i y e = client_after w.config w.next i (clock_of w.time w.offsets (client_party w.config i)) y.state e
+-- client i of a facade after an event
+abbrev pub asked : Facade → ℕ → ClientEvent → Reaction Client
+asked f i e = client_after f.config f.next i (clock f (client_party f.config i)) (state_at f i) e

@@ -1,20 +1,18 @@
 // What a party does to which something happens.
 #![tactic(auto)]
 
-ghost use Rattle.std.specs.Prelude.{◌≡◌, ◌≤◌, ◌<◌, T, nat_abs};
-ghost use Rattle.rules.specs.Parts.{with_life};
+ghost use Rattle.std.specs.Prelude.{◌≡◌, ◌≤◌, ◌<◌, T};
+ghost use Rattle.rules.specs.Parts.{with_life, with_notices};
 ghost use Rattle.rules.specs.Steps.{server_after, notices_after, client_after, next_after};
 ghost use Rattle.rules.proofs.Kept.{Configured};
-ghost use Rattle.types.specs.declared.Deed.TheVariants.{Serves, Asks};
-ghost use Rattle.world.specs.Apart.{WorldInRange};
-ghost use Rattle.deeds.specs.Deeds.{event_in_range, DeedInRange, asked_in, served_at};
-ghost use Rattle.rules.specs.Ranges.{after_last, last_reading, last_time};
+ghost use Rattle.deeds.specs.Deeds.{event_in_range, served, asked};
+ghost use Rattle.rules.specs.Ranges.{in_range, after_last, last_reading};
 
 use arith::clock_reading;
 use client::{discovers, renews, requests};
 use clocks::row_now;
-use server::done;
-use types::{Client, ClientEvent, Config, Reaction, Server, ServerEvent, State, World};
+use outbox::done;
+use types::{Client, ClientEvent, Config, Facade, Reaction, Server, ServerEvent, State};
 
 // Server s is alive or not from true time t on.
 fn with_life(s: Server, alive: bool, t: u32) -> Server
@@ -42,29 +40,27 @@ fn server_after(c: Config, t: u32, k: u32, r: u32, s: Server, e: ServerEvent) ->
     }
 }
 
-// Server k after an event at true time t, its clock being ahead by o. The offset is handed in, and not the world, since that
-// would be copied.
-pub fn served_at(c: Config, t: u32, o: i32, k: u32, s: Server, e: ServerEvent) -> Reaction<Server>
-    requires { Configured c × (t ≤ last_time) × (nat_abs o ≤ 1000) × (k < c.servers) × T (event_in_range c k e) }
-    ensures { result ≡ served_at c t o k s e }
+// Server k of a facade after an event, by its clock.
+pub fn served(f: &Facade, k: u32, e: ServerEvent) -> Reaction<Server>
+    requires { T (in_range f.now) × (k < f.now.config.servers) × T (event_in_range f.now.config k e) }
+    ensures { result ≡ served f.now k e }
 {
-    server_after(c, t, k, clock_reading(t, o), s, e)
+    let at = k as usize;
+    let reading = clock_reading(f.time, f.offsets[at]);
+    server_after(f.config, f.time, k, reading, f.servers[at], e)
 }
 
 // The notice times after it.
 #[tactic(auto, unfolding(rules::specs::Steps::notices_after))]
-pub fn notices_after(w: World, k: u32, e: ServerEvent) -> [u32; 16]
-    requires { WorldInRange w × DeedInRange w (Serves k e) }
-    ensures { result ≡ notices_after w.notices w.time k e }
+pub fn notices_after(f: &mut Facade, k: u32, e: ServerEvent)
+    requires { T (in_range f.old) × (k < f.old.config.servers) × T (event_in_range f.old.config k e) }
+    ensures { f.new ≡ with_notices f.old (notices_after f.old.notices f.old.time k e) }
 {
+    let now = f.time;
     match e {
-        ServerEvent::Returns => row_now(w.notices, k, w.time),
-        ServerEvent::Notices(j, _) => {
-            let mut ts = w.notices;
-            ts[(k * 4 + j) as usize] = w.time;
-            ts
-        }
-        ServerEvent::Fails | ServerEvent::Receives(_) | ServerEvent::CleansUp => w.notices,
+        ServerEvent::Returns => row_now(&mut f.notices, k, now),
+        ServerEvent::Notices(j, _) => f.notices[(k * 4 + j) as usize] = now,
+        ServerEvent::Fails | ServerEvent::Receives(_) | ServerEvent::CleansUp => {}
     }
 }
 
@@ -82,14 +78,14 @@ fn client_after(c: Config, n: u32, i: u32, r: u32, x: State, e: ClientEvent) -> 
     }
 }
 
-// Client i of world w after an event, by its clock.
-pub fn asked_in(w: World, i: u32, y: Client, e: ClientEvent) -> Reaction<Client>
-    requires { WorldInRange w × DeedInRange w (Asks i e) }
-    ensures { result ≡ asked_in w i y e }
+// Client i of a facade after an event, by its clock.
+pub fn asked(f: &Facade, i: u32, e: ClientEvent) -> Reaction<Client>
+    requires { T (in_range f.now) × (i < f.now.config.clients) }
+    ensures { result ≡ asked f.now i e }
 {
-    let party = (w.config.servers + i) as usize;
-    let reading = clock_reading(w.time, w.offsets[party]);
-    client_after(w.config, w.next, i, reading, y.state, e)
+    let party = (f.config.servers + i) as usize;
+    let reading = clock_reading(f.time, f.offsets[party]);
+    client_after(f.config, f.next, i, reading, f.clients[i as usize].state, e)
 }
 
 // The next interaction after it.

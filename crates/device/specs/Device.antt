@@ -2,7 +2,7 @@
 -- c is the configuration, r its clock reading; k and s are a server's number and value, i and y a client's.
 -- A device knows neither true time nor the next interaction, so the widest bounds are taken: the last time, and the
 -- interaction after the last.
-use Rattle.std.specs.Prelude.{Bool, true, cond, [], ℕ, leb, ltb, eqb}
+use Rattle.std.specs.Prelude.{Bool, true, cond, [], ℕ, leb, ltb, eqb, Result, Ok, Err}
 use Rattle.types.specs.declared.Config.{Config}
 use Rattle.types.specs.declared.Server.{Server}
 use Rattle.types.specs.declared.State.{State}
@@ -11,6 +11,8 @@ use Rattle.types.specs.declared.Client.{Client}
 use Rattle.types.specs.declared.Message.{Message}
 use Rattle.types.specs.declared.Outcome.TheVariants.{Done}
 use Rattle.types.specs.declared.Reaction.{Reaction}
+use Rattle.types.specs.declared.Refusal.{Refusal}
+use Rattle.types.specs.Numbers.{refusal_number}
 use Rattle.rules.specs.Conditions.{◌and◌, unless}
 use Rattle.rules.specs.Parts.{client_party}
 use Rattle.rules.specs.Views.{View}
@@ -19,7 +21,6 @@ use Rattle.rules.specs.Messages.{nothing, answer}
 use Rattle.rules.specs.Server.{noticed, after_return, cleaned, server_receives}
 use Rattle.rules.specs.Client.{reply, lapsed, discovers, requests, renews, client_receives}
 use Rattle.rules.specs.Steps.{Action, notice, discover, request, renew, malformed, exists, state_allows, interaction_left}
-use Rattle.device.specs.declared.Reply.{Reply}
 
 -- The refusals: those of the paper that a device can tell by what it is handed.
 
@@ -54,12 +55,22 @@ message_fits c p m = eqb m.receiver p and message_in_range c after_last m
 
 -- The answers, of a server or a client p.
 
+-- the refusal or 0, then its value, the outcome and what it sends
+pub record Reply (T : Type 0) : Type 0 where
+  pub refusal : ℕ
+  pub answer : Reaction T
+
 abbrev pub took : {T : Type 0} → Reaction T → Reply T
 took x = record { refusal = 0; answer = x }
 
 -- who is refused is as before, and sends nothing
 abbrev pub refused : {T : Type 0} → T → ℕ → Reply T
 refused p n = record { refusal = n; answer = answer p Done nothing }
+
+-- of a result
+abbrev pub reply_of : {T : Type 0} → T → Result (Reaction T) Refusal → Reply T
+reply_of p (Ok x) = took x
+reply_of p (Err n) = refused p (refusal_number n)
 
 -- the answer x where nothing is refused
 unfoldable pub guarded : {T : Type 0} → ℕ → T → Reaction T → Reply T

@@ -4,7 +4,7 @@
 -- A refusal leaves every list as it was, and the outcome or length is 0.
 use Rattle.std.specs.Prelude.{Bool, cond, List, ℕ, ◌%◌, eqb, length}
 use Rattle.types.specs.declared.Step.{Step}
-use Rattle.types.specs.declared.Answer.{Answer}
+use Rattle.rules.specs.Answers.{Answer}
 use Rattle.rules.specs.Conditions.{◌and◌}
 use Rattle.rules.specs.Steps.{start, step}
 use Rattle.flat.specs.Flat.{config_in, facade_numbers, facade_in, codes_facade}

@@ -11,32 +11,30 @@ ghost use Rattle.replay.specs.Output.{output_length, output_into};
 ghost use Rattle.export.specs.Export.{fresh_refusal, fresh_numbers, stepped_refusal, stepped_numbers, stepped_outcome, written_refusal, written_script, written_length};
 
 use facade::{start, step};
-use flat::{config_in, facade_in};
-use flatten::{codes_facade, put_facade};
-use types::Step;
+use flat::{Coded, Flat};
+use types::{Config, Facade, Refusal, Step};
 
 // The fresh facade of a configuration.
+#[tactic(auto, using(rules::proofs::Laws::tests, flat::proofs::Laws::over_whole, flat::proofs::Back::facade_coded), unfolding(crate::specs::Export::fresh_refusal, crate::specs::Export::fresh_numbers))]
 pub fn hoyllaqe_fresh(config: &[u32], facade: &mut [u32]) -> u32
     ensures value { result ≡ fresh_refusal config.now (length facade.old) }
     ensures facade_after { facade.new ≡ fresh_numbers config.now facade.old }
     ensures codes { result ≡ 0 → codes_facade facade.new ≡ true }
 {
-    if config.len() != 7 {
-        return 2;
+    if config.len() != 7 || facade.len() != 2778 {
+        return u32::from(Refusal::OutOfRange);
     }
-    if facade.len() != 2778 {
-        return 2;
+    match start(Config::read(config, 0)) {
+        Ok(f) => {
+            f.put(facade, 0);
+            0
+        }
+        Err(n) => u32::from(n),
     }
-    let x = start(config_in(config, 0));
-    if x.refusal != 0 {
-        return x.refusal;
-    }
-    let f = x.facade;
-    put_facade(facade, f);
-    0
 }
 
 // A step of a facade handed in, which becomes the next one.
+#[tactic(auto, using(rules::proofs::Laws::tests, flat::proofs::Blocks::coded_length, flat::proofs::Laws::over_whole, flat::proofs::Back::facade_coded), unfolding(crate::specs::Export::stepped_refusal, crate::specs::Export::stepped_numbers, crate::specs::Export::stepped_outcome))]
 pub fn hoyllaqe_step(
     facade: &mut [u32],
     kind: u32,
@@ -51,8 +49,8 @@ pub fn hoyllaqe_step(
     ensures codes { result ≡ 0 → codes_facade facade.new ≡ true }
 {
     *outcome = 0;
-    if !codes_facade(facade) {
-        return 2;
+    if !Facade::is_coded_by(facade) {
+        return u32::from(Refusal::OutOfRange);
     }
     let s = Step {
         kind,
@@ -60,42 +58,45 @@ pub fn hoyllaqe_step(
         second,
         third,
     };
-    let x = step(facade_in(facade), s);
-    if x.refusal != 0 {
-        return x.refusal;
+    let mut f = Facade::read(facade, 0);
+    match step(&mut f, s) {
+        Ok(x) => {
+            f.put(facade, 0);
+            *outcome = u32::from(x);
+            0
+        }
+        Err(n) => u32::from(n),
     }
-    let f = x.facade;
-    put_facade(facade, f);
-    *outcome = x.outcome;
-    0
 }
 
 // The first of refusals 1 to 5 that reading the script through meets.
 pub fn hoyllaqe_verdict(script: &[u8]) -> u32
     ensures { result ≡ verdict' script.now }
 {
-    script::verdict(script)
+    match script::verdict(script) {
+        Ok(()) => 0,
+        Err(n) => u32::from(n),
+    }
 }
 
 // The script of a configuration and of steps of four numbers each, and its length.
+#[tactic(auto, using(rules::proofs::Laws::tests), unfolding(crate::specs::Export::written_refusal, crate::specs::Export::written_script, crate::specs::Export::written_length))]
 pub fn hoyllaqe_write(config: &[u32], steps: &[u32], script: &mut [u8], size: &mut usize) -> u32
     ensures value { result ≡ written_refusal config.now steps.now (length script.old) }
     ensures script_after { script.new ≡ written_script config.now steps.now script.old }
     ensures size_after { size.new ≡ written_length config.now steps.now (length script.old) }
 {
     *size = 0;
-    if config.len() != 7 {
-        return 2;
+    if config.len() != 7 || steps.len() % 4 != 0 {
+        return u32::from(Refusal::OutOfRange);
     }
-    if steps.len() % 4 != 0 {
-        return 2;
+    match writer::write(Config::read(config, 0), steps, script) {
+        Ok(n) => {
+            *size = n;
+            0
+        }
+        Err(n) => u32::from(n),
     }
-    let w = writer::write(config_in(config, 0), steps, script);
-    if w.refusal != 0 {
-        return w.refusal;
-    }
-    *size = w.length;
-    0
 }
 
 // What the program `rig` prints for a script, and how many bytes that is.

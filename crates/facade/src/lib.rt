@@ -1,24 +1,33 @@
 // A whole facade: fresh, a step of any kind, and how many clients hold.
 #![tactic(auto)]
 
-ghost use Rattle.std.specs.Prelude.{◌≡◌, T};
+ghost use Rattle.std.specs.Option.{is_some};
+ghost use Rattle.std.specs.Prelude.{◌≡◌, ◌≤◌, ◌<◌, cond, Ok, Err, T, IfSome, IfOk};
+ghost use Rattle.types.specs.Numbers.{refusal_of};
+ghost use Rattle.types.specs.declared.Refusal.TheVariants.{Full};
+ghost use Rattle.types.specs.declared.Deed.TheVariants.{Serves, Asks};
+ghost use Rattle.rules.specs.Answers.{answer_of};
 ghost use Rattle.rules.specs.Ranges.{in_range};
-ghost use Rattle.rules.specs.Steps.{fresh as fresh', start as start', refused as refused', action_of, malformed as malformed', step as step', held_clients};
-ghost use Rattle.world.specs.Apart.{facade_of};
+ghost use Rattle.rules.specs.Steps.{fresh as fresh', malformed as malformed', start as start', enacted, answer_to, step as step', held_clients};
+ghost use Rattle.cable.specs.Exchange.{room_for, taken_from};
+ghost use Rattle.deeds.specs.Deeds.{event_in_range};
+ghost use Rattle.facade.specs.Full.{unless_full};
 
-use cable::{exchange, room_for, waiting_then};
+use arith::check;
+use cable::{room_for, send_all, take_from};
 use client::held_among;
-use clocks::{holds_ended, moved_in};
-use decisions::decided;
-use deeds::{asked_in, next_after, notices_after, served_at};
-use outbox::nothing;
+use clocks::{lapse, moved};
+use decisions::{barred, deed_of, taken_out};
+use deeds::{asked, next_after, notices_after, served};
 use ranges::{config_in_range, in_range};
 use steps::{action_of, malformed};
-use types::{Answer, Client, Config, Deed, Facade, Message, Server, State, Step, World};
-use world::{facade_of, lives_of, place_below, world_of};
+use types::{
+    Action, Client, ClientEvent, Config, Deed, Facade, Outbox, Outcome, Refusal, ServerEvent,
+    State, Step,
+};
 
 // Before any step. All places are filled alike.
-fn fresh(c: Config) -> Facade
+pub fn fresh(c: Config) -> Facade
     ensures { result ≡ fresh' c }
 {
     let s = server::cleared_server(true, 0, 0, [0; 32]);
@@ -37,136 +46,98 @@ fn fresh(c: Config) -> Facade
     }
 }
 
-// A refused step returns the facade it was given.
-fn refused(f: Facade, n: u32) -> Answer
-    ensures { result ≡ refused' f n }
+// The fresh facade of a configuration, or refusal 2 where a number of it is out of range.
+#[tactic(auto, unfolding(rules::specs::Conditions::unless, rules::specs::Steps::start))]
+pub fn start(c: Config) -> Result<Facade, Refusal>
+    ensures refusal { refusal_of result ≡ (start' c).refusal }
+    ensures facade { IfOk result (λ f. f ≡ (start' c).facade) }
 {
-    Answer {
-        refusal: n,
-        outcome: 0,
-        facade: f,
-    }
+    check(config_in_range(c), Refusal::OutOfRange)?;
+    Ok(fresh(c))
 }
 
-// The fresh facade of a configuration, with refusal 2 where a number of it is out of range.
-pub fn start(c: Config) -> Answer
-    ensures { result ≡ start' c }
+// Refusal 13: there is no room for what is sent, the message at the position that is named being taken out.
+fn fits(f: &Facade, taken: Option<u32>, sent: &Outbox) -> Result<(), Refusal>
+    requires { (f.now.waiting ≤ 128) × (sent.now.count ≤ 4) × IfSome taken (λ p. p < f.now.waiting) }
+    ensures { result ≡ cond (room_for f.now.waiting (is_some taken) sent.now.count) (Ok tt) (Err Full) }
 {
-    let f = fresh(c);
-    if config_in_range(c) {
-        return Answer {
-            refusal: 0,
-            outcome: 0,
-            facade: f,
-        };
-    }
-    refused(f, 2)
+    check(
+        room_for(f.waiting, taken.is_some(), sent.count),
+        Refusal::Full,
+    )
 }
 
-// A step s of a facade in range that is apart: its refusal or 0, and its outcome. `malformed` is the refusal that its form gives it.
-// At hand are the message and the client with the number in its first field. A refused step changes nothing; else what happens is
-// put in, and then the messages are exchanged.
-pub fn take_step(
-    w: &mut World,
-    ss: &mut [Server; 4],
-    ys: &mut [Client; 32],
-    ms: &mut [Message; 128],
-    s: Step,
-    malformed: u32,
-) -> (u32, u32)
-    requires { T (in_range (facade_of w.old ss.old ys.old ms.old)) × (malformed ≡ malformed' (action_of s) 0) }
-    ensures { record { refusal = result.0; outcome = result.1; facade = facade_of w.new ss.new ys.new ms.new } ≡ step' (facade_of w.old ss.old ys.old ms.old) s }
+// Server k is told of an event.
+fn serve(f: &mut Facade, taken: Option<u32>, k: u32, e: ServerEvent) -> Result<Outcome, Refusal>
+    requires { T (in_range f.old) × (k < f.old.config.servers) × T (event_in_range f.old.config k e) × IfSome taken (λ p. p < f.old.waiting) }
+    ensures { answer_of result f.new ≡ unless_full f.old (enacted (taken_from f.old taken) (Serves k e)) }
 {
-    let from = place_below(128, s.first);
-    let near = place_below(32, s.first);
-    let d = decided(
-        malformed,
-        *w,
-        lives_of(*ss),
-        ys[near],
-        ms[from],
-        action_of(s),
-    );
-    if d.refusal != 0 {
-        return (d.refusal, 0);
+    let x = served(f, k, e);
+    fits(f, taken, &x.outbox)?;
+    notices_after(f, k, e);
+    f.servers[k as usize] = x.after;
+    take_from(f, taken);
+    send_all(f, &x.outbox);
+    Ok(x.outcome)
+}
+
+// Client i is told of an event.
+fn ask(f: &mut Facade, taken: Option<u32>, i: u32, e: ClientEvent) -> Result<Outcome, Refusal>
+    requires { T (in_range f.old) × (i < f.old.config.clients) × IfSome taken (λ p. p < f.old.waiting) }
+    ensures { answer_of result f.new ≡ unless_full f.old (enacted (taken_from f.old taken) (Asks i e)) }
+{
+    let x = asked(f, i, e);
+    fits(f, taken, &x.outbox)?;
+    f.next = next_after(f.next, e);
+    f.clients[i as usize] = x.after;
+    take_from(f, taken);
+    send_all(f, &x.outbox);
+    Ok(x.outcome)
+}
+
+// A step of a facade in range that breaks none of the rules 4 and 5. A refused step changes nothing.
+fn take(f: &mut Facade, a: Action) -> Result<Outcome, Refusal>
+    requires { T (in_range f.old) × (malformed' a 0 ≡ 0) }
+    ensures { answer_of result f.new ≡ answer_to f.old a }
+{
+    barred(f, a)?;
+    let taken = taken_out(a);
+    match deed_of(f, a) {
+        Deed::Rests => {
+            take_from(f, taken);
+            Ok(Outcome::Done)
+        }
+        Deed::Passes(d, p, e) => {
+            moved(f, d, p, e);
+            lapse(f);
+            Ok(Outcome::Done)
+        }
+        Deed::Serves(k, e) => serve(f, taken, k, e),
+        Deed::Asks(i, e) => ask(f, taken, i, e),
     }
-    let taken = d.taken;
-    let mut outcome = 0;
-    let mut sent = nothing();
-    let happens = d.happens;
-    match happens {
-        Deed::Rests => {}
-        Deed::Passes(time, q, e) => {
-            *w = moved_in(*w, time, q, e);
-            *ys = holds_ended(*w, *ys);
-        }
-        Deed::Serves(k, e) => {
-            let at = k as usize;
-            let x = served_at(w.config, w.time, w.offsets[at], k, ss[at], e);
-            if !room_for(w.waiting, taken, x.outbox.count) {
-                return (13, 0);
-            }
-            ss[at] = x.after;
-            w.notices = notices_after(*w, k, e);
-            sent = x.outbox;
-            outcome = u32::from(x.outcome);
-        }
-        Deed::Asks(i, e) => {
-            let at = i as usize;
-            let y = asked_in(*w, i, ys[at], e);
-            if !room_for(w.waiting, taken, y.outbox.count) {
-                return (13, 0);
-            }
-            ys[at] = y.after;
-            w.next = next_after(w.next, e);
-            sent = y.outbox;
-            outcome = u32::from(y.outcome);
-        }
-    }
-    let waits = waiting_then(w.waiting, taken, sent.count);
-    exchange(ms, s.first, w.waiting, taken, &sent);
-    w.waiting = waits;
-    (0, outcome)
 }
 
 // A step of a facade that is in range.
-fn step_in_range(f: Facade, s: Step) -> Answer
-    requires { T (in_range f) }
-    ensures { result ≡ step' f s }
+pub fn take_step(f: &mut Facade, s: Step) -> Result<Outcome, Refusal>
+    requires { T (in_range f.old) }
+    ensures { answer_of result f.new ≡ step' f.old s }
 {
-    let mut w = world_of(f);
-    let mut ss = f.servers;
-    let mut ys = f.clients;
-    let mut ms = f.messages;
-    let (refusal, outcome) = take_step(
-        &mut w,
-        &mut ss,
-        &mut ys,
-        &mut ms,
-        s,
-        malformed(action_of(s)),
-    );
-    Answer {
-        refusal,
-        outcome,
-        facade: facade_of(w, ss, ys, ms),
-    }
+    let a = action_of(s);
+    malformed(a)?;
+    take(f, a)
 }
 
-// The answer to a step, for every facade, kind number and fields.
-pub fn step(f: Facade, s: Step) -> Answer
-    ensures { result ≡ step' f s }
+// A step of any facade, with any kind number and fields.
+pub fn step(f: &mut Facade, s: Step) -> Result<Outcome, Refusal>
+    ensures { answer_of result f.new ≡ step' f.old s }
 {
-    if in_range(f) {
-        return step_in_range(f, s);
-    }
-    refused(f, 2)
+    check(in_range(f), Refusal::OutOfRange)?;
+    take_step(f, s)
 }
 
 // How many clients of a facade hold.
-pub fn held_clients(f: Facade) -> u32
-    ensures { result ≡ held_clients f }
+pub fn held_clients(f: &Facade) -> u32
+    ensures { result ≡ held_clients f.now }
 {
-    let ys = f.clients;
-    held_among(f.config, ys)
+    held_among(f.config, &f.clients)
 }

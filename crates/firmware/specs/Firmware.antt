@@ -4,15 +4,15 @@
 -- A refusal leaves every list as it was, with outcome 0.
 -- c, s, y and m are the lists of the configuration, the server, the client and the message; o is the list for what is sent.
 -- k is a server's number, i a client's, r the clock reading.
-use Rattle.std.specs.Prelude.{Bool, cond, List, ℕ, eqb, length}
+use Rattle.std.specs.Prelude.{Bool, cond, List, ℕ, eqb, length, Result, Ok, Err}
 use Rattle.types.specs.declared.Server.{Server}
 use Rattle.types.specs.declared.Client.{Client}
-use Rattle.types.specs.declared.Outbox.{Outbox}
-use Rattle.types.specs.Numbers.{outcome_number}
+use Rattle.types.specs.declared.Reaction.{Reaction}
+use Rattle.types.specs.declared.Refusal.{Refusal}
+use Rattle.types.specs.Numbers.{outcome_number, refusal_number}
 use Rattle.rules.specs.Conditions.{◌and◌}
 use Rattle.flat.specs.Flat.{config_in, server_numbers, server_in, client_numbers, client_in, message_in, outbox_numbers, codes_server, codes_client, codes_message}
-use Rattle.device.specs.declared.Reply.{Reply}
-use Rattle.device.specs.Device.{device_receives, device_noticed, device_returned, device_cleaned, device_hears, device_discovers, device_requests, device_renews, device_lapses}
+use Rattle.device.specs.Device.{Reply, device_receives, device_noticed, device_returned, device_cleaned, device_hears, device_discovers, device_requests, device_renews, device_lapses}
 
 -- What a call leaves: the refusal that it returns, the list of the server or client, what is sent, and the outcome.
 pub record Left : Type 0 where
@@ -24,18 +24,31 @@ pub record Left : Type 0 where
 abbrev pub leaves : ℕ → List ℕ → List ℕ → ℕ → Left
 leaves refusal p o n = record { refusal = refusal; party = p; sent = o; outcome = n }
 
--- the outcome, and the new numbers of the party and messages in the place of p and o, which a refusal leaves: "outcome (0 if refused)"
-unfoldable pub party_left : ℕ → List ℕ → Outbox → ℕ → List ℕ → List ℕ → Left
-party_left refusal numbers messages outcome p o =
-    cond (eqb refusal 0) (leaves 0 numbers (outbox_numbers messages) outcome) (leaves refusal p o 0)
+-- A server or a client, which is put as its numbers.
 
--- A server: b is whether the lists code what they stand for, x what the device replies.
+-- the new numbers and messages in the place of p and o, which a refusal leaves: "outcome (0 if refused)"
+abbrev pub result_left : {A : Type 0} → (A → List ℕ) → Result (Reaction A) Refusal → List ℕ → List ℕ → Left
+result_left numbers (Ok x) p o = leaves 0 (numbers x.after) (outbox_numbers x.outbox) (outcome_number x.outcome)
+result_left numbers (Err n) p o = leaves (refusal_number n) p o 0
+
+-- the same of the reply x: b is whether the lists code what they stand for
+unfoldable pub party_left : {A : Type 0} → (A → List ℕ) → Bool → Reply A → List ℕ → List ℕ → Left
+party_left numbers b x p o =
+    cond (eqb (cond b x.refusal 2) 0)
+    (leaves 0 (numbers x.answer.after) (outbox_numbers x.answer.outbox) (outcome_number x.answer.outcome))
+    (leaves (cond b x.refusal 2) p o 0)
+
+-- whether the lists are those of a configuration and a party, with room for what is sent
+unfoldable pub are_lists : (List ℕ → Bool) → List ℕ → List ℕ → List ℕ → Bool
+are_lists codes c p o = eqb (length c) 7 and eqb (length o) 29 and codes p
+
+-- A server.
 
 abbrev pub server_left : Bool → Reply Server → List ℕ → List ℕ → Left
-server_left b x s o = party_left (cond b x.refusal 2) (server_numbers x.answer.after) x.answer.outbox (outcome_number x.answer.outcome) s o
+server_left = party_left server_numbers
 
-unfoldable pub are_server_lists : List ℕ → List ℕ → List ℕ → Bool
-are_server_lists c s o = eqb (length c) 7 and eqb (length o) 29 and codes_server s
+abbrev pub are_server_lists : List ℕ → List ℕ → List ℕ → Bool
+are_server_lists = are_lists codes_server
 
 unfoldable pub receive_message_left : List ℕ → ℕ → ℕ → List ℕ → List ℕ → List ℕ → Left
 receive_message_left c k r s m o =
@@ -53,10 +66,10 @@ clean_up_left c k r s o = server_left (are_server_lists c s o) (device_cleaned (
 -- A client.
 
 abbrev pub client_left : Bool → Reply Client → List ℕ → List ℕ → Left
-client_left b x y o = party_left (cond b x.refusal 2) (client_numbers x.answer.after) x.answer.outbox (outcome_number x.answer.outcome) y o
+client_left = party_left client_numbers
 
-unfoldable pub are_client_lists : List ℕ → List ℕ → List ℕ → Bool
-are_client_lists c y o = eqb (length c) 7 and eqb (length o) 29 and codes_client y
+abbrev pub are_client_lists : List ℕ → List ℕ → List ℕ → Bool
+are_client_lists = are_lists codes_client
 
 unfoldable pub receive_reply_left : List ℕ → ℕ → ℕ → List ℕ → List ℕ → List ℕ → Left
 receive_reply_left c i r y m o =

@@ -3,45 +3,85 @@
 // as it was, and gives outcome 0.
 #![tactic(auto)]
 
-ghost use Rattle.std.specs.Prelude.{true, ◌≡◌, length};
-ghost use Rattle.firmware.specs.Firmware.{leaves, server_left, are_server_lists, receive_message_left, take_notice_left, come_back_left, clean_up_left, client_left, are_client_lists, receive_reply_left, discover_left, request_left, renew_left, pass_time_left};
+ghost use Rattle.std.specs.Prelude.{◌≡◌, Result, cond, length, OnOk};
+ghost use Rattle.types.specs.declared.Refusal.{Refusal};
+ghost use Rattle.types.specs.declared.Refusal.TheVariants.{OutOfRange};
+ghost use Rattle.types.specs.declared.Reaction.{Reaction};
+ghost use Rattle.flat.specs.Blocks.{codes};
+ghost use Rattle.flat.specs.Flat.{config_in, message_in, codes_message};
+ghost use Rattle.device.specs.Device.{Reply, reply_of};
+ghost use Rattle.firmware.specs.Firmware.{leaves, result_left, party_left, are_lists, receive_message_left, take_notice_left, come_back_left, clean_up_left, receive_reply_left, discover_left, request_left, renew_left, pass_time_left};
 
-use device::Reply;
-use flat::{client_in, config_in, message_in, server_in};
-use flatten::{codes_client, codes_message, codes_server, put_client, put_outbox, put_server};
-use types::{Client, Server};
+use arith::check;
+use flat::{Coded, Flat, put_outbox};
+use types::{Config, Message, Reaction, Refusal};
 
-// Whether the lists code a configuration and a server, with room for what is sent.
-#[tactic(auto, using(rules::proofs::Laws::tests), unfolding(crate::specs::Firmware::are_server_lists))]
-fn are_server_lists(config: &[u32], server: &[u32], sent: &[u32]) -> bool
-    ensures { result ≡ are_server_lists config.now server.now sent.now }
+// What the lists of a configuration and a party, a server or a client, code, with room for what is sent. Refusal 2 where they do
+// not fit.
+#[tactic(auto, using(rules::proofs::Laws::tests, flat::proofs::Blocks::coded_length), unfolding(crate::specs::Firmware::are_lists))]
+fn read_lists<T: Coded>(config: &[u32], party: &[u32], sent: &[u32]) -> Result<(Config, T), Refusal>
+    ensures fits { result ≡ cond (are_lists (codes T.numbers T.value T.WIDTH) config.now party.now sent.now) (Ok (config_in config.now 0, T.value party.now 0)) (Err OutOfRange) }
+    ensures ok { OnOk result ((length party.now ≡ T.WIDTH) × (length sent.now ≡ 29)) }
 {
-    config.len() == 7 && sent.len() == 29 && codes_server(server)
+    check(config.len() == 7, Refusal::OutOfRange)?;
+    check(sent.len() == 29, Refusal::OutOfRange)?;
+    check(T::is_coded_by(party), Refusal::OutOfRange)?;
+    Ok((Config::read(config, 0), T::read(party, 0)))
 }
 
-// The reply of a server: put where it is not refused, and else outcome 0.
-fn put_server_reply(
-    x: Reply<Server>,
-    server: &mut [u32],
+// What a device replies, put where it is not refused, and else outcome 0.
+#[tactic(auto, using(flat::proofs::Laws::over_whole, flat::proofs::Back::outbox_width))]
+fn put_reply<T: Coded>(
+    x: Result<Reaction<T>, Refusal>,
+    party: &mut [u32],
     sent: &mut [u32],
     outcome: &mut u32,
 ) -> u32
-    requires server_len { length server.old ≡ 423 }
-    requires sent_len { length sent.old ≡ 29 }
-    ensures { leaves result server.new sent.new outcome.new ≡ server_left true x server.old sent.old }
+    requires { OnOk x ((length party.old ≡ T.WIDTH) × (length sent.old ≡ 29)) }
+    ensures { leaves result party.new sent.new outcome.new ≡ result_left T.numbers x party.old sent.old }
 {
-    let refused = x.refusal != 0;
-    if refused {
-        *outcome = 0;
-        return x.refusal;
+    match x {
+        Ok(x) => {
+            x.after.put(party, 0);
+            put_outbox(sent, 0, x.outbox);
+            *outcome = u32::from(x.outcome);
+            0
+        }
+        Err(n) => {
+            *outcome = 0;
+            u32::from(n)
+        }
     }
-    put_server(server, 0, x.answer.after);
-    put_outbox(sent, 0, x.answer.outbox);
-    *outcome = u32::from(x.answer.outcome);
-    0
+}
+
+// The device's step, on lists: it is handed what they code, and its reply is put. Where every answer that it may give is the
+// reply z, they are left as z leaves them.
+#[tactic(auto, using(device::proofs::Laws::not_none), unfolding(crate::specs::Firmware::party_left))]
+fn answered<T: Coded, F: FnOnce((Config, T)) -> Result<Reaction<T>, Refusal>>(
+    config: &[u32],
+    party: &mut [u32],
+    sent: &mut [u32],
+    outcome: &mut u32,
+    device: F,
+) -> u32
+    requires { F.IsAlwaysCallable device }
+    ensures { (z : Reply T) → ((y : Result (Reaction T) Refusal) → F.post device (config_in config.now 0, T.value party.old 0) y → reply_of (T.value party.old 0) y ≡ z) → leaves result party.new sent.new outcome.new ≡ party_left T.numbers (are_lists (codes T.numbers T.value T.WIDTH) config.now party.old sent.old) z party.old sent.old }
+{
+    let x = read_lists(config, party, sent).and_then(device);
+    put_reply(x, party, sent, outcome)
+}
+
+// The message that a list codes: refusal 2 where it codes none.
+#[tactic(auto, using(flat::proofs::Blocks::coded_length))]
+fn message_of(l: &[u32]) -> Result<Message, Refusal>
+    ensures { result ≡ cond (codes_message l.now) (Ok (message_in l.now 0)) (Err OutOfRange) }
+{
+    check(Message::is_coded_by(l), Refusal::OutOfRange)?;
+    Ok(Message::read(l, 0))
 }
 
 // A message comes to the server.
+#[tactic(auto, unfolding(crate::specs::Firmware::receive_message_left))]
 #[unsafe(no_mangle)]
 pub extern "C" fn hoyllaqe_receive_message(
     config: &[u32],
@@ -54,19 +94,13 @@ pub extern "C" fn hoyllaqe_receive_message(
 ) -> u32
     ensures { leaves result server.new sent.new outcome.new ≡ receive_message_left config.now number reading server.old message.now sent.old }
 {
-    let fits = are_server_lists(config, server, sent) && codes_message(message);
-    if !fits {
-        *outcome = 0;
-        return 2;
-    }
-    let c = config_in(config, 0);
-    let s = server_in(server, 0);
-    let m = message_in(message, 0);
-    let x = device::device_receives(c, number, reading, s, m);
-    put_server_reply(x, server, sent, outcome)
+    answered(config, server, sent, outcome, |(c, s)| {
+        device::device_receives(c, number, reading, s, message_of(message)?)
+    })
 }
 
 // A notice: server `about` is dead (0) or alive (1).
+#[tactic(auto, unfolding(crate::specs::Firmware::take_notice_left))]
 #[unsafe(no_mangle)]
 pub extern "C" fn hoyllaqe_take_notice(
     config: &[u32],
@@ -80,17 +114,13 @@ pub extern "C" fn hoyllaqe_take_notice(
 ) -> u32
     ensures { leaves result server.new sent.new outcome.new ≡ take_notice_left config.now number reading server.old about says sent.old }
 {
-    if !are_server_lists(config, server, sent) {
-        *outcome = 0;
-        return 2;
-    }
-    let c = config_in(config, 0);
-    let s = server_in(server, 0);
-    let x = device::device_noticed(c, number, reading, s, about, says);
-    put_server_reply(x, server, sent, outcome)
+    answered(config, server, sent, outcome, |(c, s)| {
+        device::device_noticed(c, number, reading, s, about, says)
+    })
 }
 
 // The server comes back after a failure.
+#[tactic(auto, unfolding(crate::specs::Firmware::come_back_left))]
 #[unsafe(no_mangle)]
 pub extern "C" fn hoyllaqe_come_back(
     config: &[u32],
@@ -102,17 +132,13 @@ pub extern "C" fn hoyllaqe_come_back(
 ) -> u32
     ensures { leaves result server.new sent.new outcome.new ≡ come_back_left config.now number reading server.old sent.old }
 {
-    if !are_server_lists(config, server, sent) {
-        *outcome = 0;
-        return 2;
-    }
-    let c = config_in(config, 0);
-    let s = server_in(server, 0);
-    let x = device::device_returned(c, number, reading, s);
-    put_server_reply(x, server, sent, outcome)
+    answered(config, server, sent, outcome, |(c, s)| {
+        device::device_returned(c, number, reading, s)
+    })
 }
 
 // Old reservations are dropped.
+#[tactic(auto, unfolding(crate::specs::Firmware::clean_up_left))]
 #[unsafe(no_mangle)]
 pub extern "C" fn hoyllaqe_clean_up(
     config: &[u32],
@@ -124,46 +150,13 @@ pub extern "C" fn hoyllaqe_clean_up(
 ) -> u32
     ensures { leaves result server.new sent.new outcome.new ≡ clean_up_left config.now number reading server.old sent.old }
 {
-    if !are_server_lists(config, server, sent) {
-        *outcome = 0;
-        return 2;
-    }
-    let c = config_in(config, 0);
-    let s = server_in(server, 0);
-    let x = device::device_cleaned(c, number, reading, s);
-    put_server_reply(x, server, sent, outcome)
-}
-
-// Whether the lists code a configuration and a client, with room for what is sent.
-#[tactic(auto, using(rules::proofs::Laws::tests), unfolding(crate::specs::Firmware::are_client_lists))]
-fn are_client_lists(config: &[u32], client: &[u32], sent: &[u32]) -> bool
-    ensures { result ≡ are_client_lists config.now client.now sent.now }
-{
-    config.len() == 7 && sent.len() == 29 && codes_client(client)
-}
-
-// The reply of a client: put where it is not refused, and else outcome 0.
-fn put_client_reply(
-    z: Reply<Client>,
-    client: &mut [u32],
-    sent: &mut [u32],
-    outcome: &mut u32,
-) -> u32
-    requires client_len { length client.old ≡ 4 }
-    requires sent_len { length sent.old ≡ 29 }
-    ensures { leaves result client.new sent.new outcome.new ≡ client_left true z client.old sent.old }
-{
-    if z.refusal != 0 {
-        *outcome = 0;
-        return z.refusal;
-    }
-    put_client(client, 0, z.answer.after);
-    put_outbox(sent, 0, z.answer.outbox);
-    *outcome = u32::from(z.answer.outcome);
-    0
+    answered(config, server, sent, outcome, |(c, s)| {
+        device::device_cleaned(c, number, reading, s)
+    })
 }
 
 // A message comes to the client.
+#[tactic(auto, unfolding(crate::specs::Firmware::receive_reply_left))]
 #[unsafe(no_mangle)]
 pub extern "C" fn hoyllaqe_receive_reply(
     config: &[u32],
@@ -176,19 +169,13 @@ pub extern "C" fn hoyllaqe_receive_reply(
 ) -> u32
     ensures { leaves result client.new sent.new outcome.new ≡ receive_reply_left config.now number reading client.old message.now sent.old }
 {
-    let fits = are_client_lists(config, client, sent) && codes_message(message);
-    if !fits {
-        *outcome = 0;
-        return 2;
-    }
-    let c = config_in(config, 0);
-    let y = client_in(client, 0);
-    let m = message_in(message, 0);
-    let z = device::device_hears(c, number, reading, y, m);
-    put_client_reply(z, client, sent, outcome)
+    answered(config, client, sent, outcome, |(c, y)| {
+        device::device_hears(c, number, reading, y, message_of(message)?)
+    })
 }
 
 // A discover with a new interaction.
+#[tactic(auto, unfolding(crate::specs::Firmware::discover_left))]
 #[unsafe(no_mangle)]
 pub extern "C" fn hoyllaqe_discover(
     config: &[u32],
@@ -201,17 +188,13 @@ pub extern "C" fn hoyllaqe_discover(
 ) -> u32
     ensures { leaves result client.new sent.new outcome.new ≡ discover_left config.now number reading client.old interaction sent.old }
 {
-    if !are_client_lists(config, client, sent) {
-        *outcome = 0;
-        return 2;
-    }
-    let c = config_in(config, 0);
-    let y = client_in(client, 0);
-    let z = device::device_discovers(c, number, reading, y, interaction);
-    put_client_reply(z, client, sent, outcome)
+    answered(config, client, sent, outcome, |(c, y)| {
+        device::device_discovers(c, number, reading, y, interaction)
+    })
 }
 
 // A request with the wanted end.
+#[tactic(auto, unfolding(crate::specs::Firmware::request_left))]
 #[unsafe(no_mangle)]
 pub extern "C" fn hoyllaqe_request(
     config: &[u32],
@@ -224,17 +207,13 @@ pub extern "C" fn hoyllaqe_request(
 ) -> u32
     ensures { leaves result client.new sent.new outcome.new ≡ request_left config.now number reading client.old wanted sent.old }
 {
-    if !are_client_lists(config, client, sent) {
-        *outcome = 0;
-        return 2;
-    }
-    let c = config_in(config, 0);
-    let y = client_in(client, 0);
-    let z = device::device_requests(c, number, reading, y, wanted);
-    put_client_reply(z, client, sent, outcome)
+    answered(config, client, sent, outcome, |(c, y)| {
+        device::device_requests(c, number, reading, y, wanted)
+    })
 }
 
 // A renewal with the wanted end and a new interaction.
+#[tactic(auto, unfolding(crate::specs::Firmware::renew_left))]
 #[unsafe(no_mangle)]
 pub extern "C" fn hoyllaqe_renew(
     config: &[u32],
@@ -248,17 +227,13 @@ pub extern "C" fn hoyllaqe_renew(
 ) -> u32
     ensures { leaves result client.new sent.new outcome.new ≡ renew_left config.now number reading client.old wanted interaction sent.old }
 {
-    if !are_client_lists(config, client, sent) {
-        *outcome = 0;
-        return 2;
-    }
-    let c = config_in(config, 0);
-    let y = client_in(client, 0);
-    let z = device::device_renews(c, number, reading, y, wanted, interaction);
-    put_client_reply(z, client, sent, outcome)
+    answered(config, client, sent, outcome, |(c, y)| {
+        device::device_renews(c, number, reading, y, wanted, interaction)
+    })
 }
 
 // Time passes: a hold whose end is not above the clock is over.
+#[tactic(auto, unfolding(crate::specs::Firmware::pass_time_left))]
 #[unsafe(no_mangle)]
 pub extern "C" fn hoyllaqe_pass_time(
     config: &[u32],
@@ -270,12 +245,7 @@ pub extern "C" fn hoyllaqe_pass_time(
 ) -> u32
     ensures { leaves result client.new sent.new outcome.new ≡ pass_time_left config.now number reading client.old sent.old }
 {
-    if !are_client_lists(config, client, sent) {
-        *outcome = 0;
-        return 2;
-    }
-    let c = config_in(config, 0);
-    let y = client_in(client, 0);
-    let z = device::device_lapses(c, number, reading, y);
-    put_client_reply(z, client, sent, outcome)
+    answered(config, client, sent, outcome, |(c, y)| {
+        device::device_lapses(c, number, reading, y)
+    })
 }

@@ -2,7 +2,7 @@
 use mathlib.Core.Path.{◌≡◌, refl, sym, ap, ◌∙◌}
 use mathlib.Core.Bool.{Bool, true, false}
 use mathlib.Core.List.{List, [], ◌∷◌, ◌++◌}
-use Prim.Native.Nat.{ℕ, suc, ◌+◌, ◌*◌, ◌≤◌, ◌<◌}
+use Prim.Native.Nat.{ℕ, suc, ◌+◌, ◌*◌, ◌<◌}
 use native.Mathlib.Nat.{add-zero}
 use native.Mathlib.Omega.{arith}
 use lib.Dec.{eqb}
@@ -10,8 +10,6 @@ use lib.ListN.{length, length-append}
 use mir.Syntax.{w32}
 use mir.Val.{SFits}
 use Rattle.std.specs.Prelude.{Option, Some, None}
-use Rattle.types.specs.declared.Reservation.{Reservation}
-use Rattle.types.specs.declared.Pending.{Pending}
 use Rattle.types.specs.declared.OpenWrite.{OpenWrite}
 use Rattle.types.specs.declared.Server.{Server}
 use Rattle.types.specs.declared.State.{State}
@@ -22,11 +20,12 @@ use Rattle.types.specs.declared.Body.TheVariants.{Empty, Discover, Offer, Reques
 use Rattle.types.specs.declared.Message.{Message}
 use Rattle.types.specs.declared.Outbox.{Outbox}
 use Rattle.types.specs.declared.Facade.{Facade}
+use Rattle.rules.specs.Parts.{taken, open_write}
 use Rattle.wire.proofs.Numbers.{complement_signed}
 use Rattle.flat.specs.Blocks.{each, each_in}
-use Rattle.flat.specs.Flat.{plain, number_in, flag_number, flag_numbers, flag_in, offset_numbers, offset_in, config_numbers, config_in, reserved_of, reservation_numbers, reservation_in, pending_numbers, pending_of, write_numbers, write_in, leading_numbers, ends_numbers, server_numbers, server_in, state_numbers, state_of, client_numbers, client_in, body_numbers, body_of, message_numbers, message_in, outbox_numbers, outbox_in, times_numbers, facade_numbers, facade_in, codes_facade, codes_server, codes_client, codes_message}
-use Rattle.flat.specs.Shape.{Has, WriteShaped, ServerShaped, OutboxShaped, FacadeShaped}
-use Rattle.flat.proofs.Blocks.{Holds, holds_left, holds_right, holds_all, Back, Any, many_any, array_back, own_coded, codes_own}
+use Rattle.flat.specs.Flat.{plain, number_in, flag_number, flag_numbers, flag_in, offset_numbers, offset_in, config_numbers, config_in, option_numbers, option_in, reservation_numbers, reservation_in, pending_numbers, pending_in, write_numbers, write_in, leading_numbers, ends_numbers, server_numbers, server_in, state_numbers, state_of, client_numbers, client_in, body_numbers, body_of, message_numbers, message_in, outbox_numbers, outbox_in, times_numbers, facade_numbers, facade_at, facade_in, codes_facade, codes_server, codes_client, codes_message}
+use Rattle.flat.specs.Shape.{Any, Has, WriteShaped, ServerShaped, OutboxShaped, FacadeShaped}
+use Rattle.flat.proofs.Blocks.{Holds, holds_left, holds_right, Back, many_any, array_back, own_reads, own_coded}
 
 -- the first number of a list that is held at p
 first : (l : List ℕ) (p : ℕ) (v : List ℕ) → Holds l p v → 0 < length v → number_in l p ≡ number_in v 0
@@ -58,8 +57,8 @@ module _ (l : List ℕ) (p : ℕ) (v : List ℕ) (h : Holds l p v) where
   client_window : length v ≡ 4 → client_in l p ≡ client_in v 0
   client_window e = rw (first l p v h (omega arith), h 1 (omega arith), h 2 (omega arith), h 3 (omega arith))
 
-  reservation_window : length v ≡ 3 → reservation_in l p ≡ reservation_in v 0
-  reservation_window e = rw (first l p v h (omega arith), h 1 (omega arith), h 2 (omega arith))
+  option_window : {A : Type 0} (some : ℕ → ℕ → Option A) → length v ≡ 3 → option_in some l p ≡ option_in some v 0
+  option_window some e = rw (first l p v h (omega arith), h 1 (omega arith), h 2 (omega arith))
 
   config_window : length v ≡ 7 → config_in l p ≡ config_in v 0
   config_window e =
@@ -69,39 +68,32 @@ module _ (l : List ℕ) (p : ℕ) (v : List ℕ) (h : Holds l p v) where
   message_window e =
       rw (first l p v h (omega arith), h 1 (omega arith), h 2 (omega arith), h 3 (omega arith), h 4 (omega arith), h 5 (omega arith), h 6 (omega arith))
 
-  -- the first three numbers of an open write
-  pending_window : 3 ≤ length v → pending_of (number_in l p) (number_in l (p + 1)) (number_in l (p + 2)) ≡ pending_of (number_in v 0) (number_in v 1) (number_in v 2)
-  pending_window e = rw (first l p v h (omega arith), h 1 (omega arith), h 2 (omega arith))
-
 pub config_back : Back Any config_numbers config_in 7
 unfolding config_numbers
 config_back = record { width = λ c s. refl; reads = λ c s l p h. config_window l p (config_numbers c) h refl }
 
 -- Cases.
 
-reservation_width : (x : Option Reservation) → length (reservation_numbers x) ≡ 3
-reservation_width None = refl
-reservation_width (Some x) = refl
+module _ {A : Type 0} (some : ℕ → ℕ → Option A) (g h : A → ℕ) (own : (x : A) → some (g x) (h x) ≡ Some x) where
+  option_width : (x : Option A) → length (option_numbers g h x) ≡ 3
+  option_width None = refl
+  option_width (Some x) = refl
 
-reservation_own : (x : Option Reservation) → reservation_in (reservation_numbers x) 0 ≡ x
-unfolding reserved_of
-reservation_own None = refl
-reservation_own (Some x) = refl
+  option_own : (x : Option A) → option_in some (option_numbers g h x) 0 ≡ x
+  option_own None = refl
+  option_own (Some x) = own x
+
+  option_back : Back Any (option_numbers g h) (option_in some) 3
+  option_back = record {
+    width = λ x s. option_width x;
+    reads = λ x s l p h'. option_window l p (option_numbers g h x) h' some (option_width x) ∙ option_own x;
+  }
 
 pub reservation_back : Back Any reservation_numbers reservation_in 3
-reservation_back = record {
-  width = λ x s. reservation_width x;
-  reads = λ x s l p h. reservation_window l p (reservation_numbers x) h (reservation_width x) ∙ reservation_own x;
-}
+reservation_back = option_back taken (λ x. x.interaction) (λ x. x.reading) (λ x. refl)
 
-pub pending_width : (x : Option Pending) → length (pending_numbers x) ≡ 3
-pending_width None = refl
-pending_width (Some x) = refl
-
-pending_own : (x : Option Pending) → pending_of (number_in (pending_numbers x) 0) (number_in (pending_numbers x) 1) (number_in (pending_numbers x) 2) ≡ x
-unfolding pending_of
-pending_own None = refl
-pending_own (Some x) = refl
+pub pending_back : Back Any pending_numbers pending_in 3
+pending_back = option_back open_write (λ x. x.interaction) (λ x. x.end) (λ x. refl)
 
 state_width : (x : State) → length (state_numbers x) ≡ 4
 state_width Idle = refl
@@ -178,15 +170,15 @@ pub write_width : (w : OpenWrite) → WriteShaped w → length (write_numbers w)
 unfolding write_numbers
 write_width w e =
     let flags = (flags_back 4).width w.acked (many_any 4 w.acked e) in
-    omega (arith, length-append (pending_numbers w.pending) (each flag_numbers w.acked), pending_width w.pending, flags)
+    omega (arith, length-append (pending_numbers w.pending) (each flag_numbers w.acked), pending_back.width w.pending tt, flags)
 
 write_reads : (w : OpenWrite) → WriteShaped w → (l : List ℕ) (p : ℕ) → Holds l p (write_numbers w) → write_in l p ≡ w
 unfolding write_numbers write_in
 write_reads w e l p h =
     let v = pending_numbers w.pending in
     let flags = each flag_numbers w.acked in
-    let x = pending_window l p v (holds_left l p v flags h) (omega (arith, pending_width w.pending)) ∙ pending_own w.pending in
-    let ys = (flags_back 4).reads w.acked (many_any 4 w.acked e) l (p + 3) (holds_right l p v flags h 3 (pending_width w.pending)) in
+    let x = pending_back.reads w.pending tt l p (holds_left l p v flags h) in
+    let ys = (flags_back 4).reads w.acked (many_any 4 w.acked e) l (p + 3) (holds_right l p v flags h 3 (pending_back.width w.pending tt)) in
     rw (x, ys)
 
 pub write_back : Back WriteShaped write_numbers write_in 7
@@ -278,12 +270,12 @@ outbox_reads o e l p h =
     let ms = (messages_back 4).reads o.messages (many_any 4 o.messages e) l (p + 1) (holds_right l p v messages h 1 refl) in
     rw (count, ms)
 
-pub outbox_back : Back OutboxShaped outbox_numbers outbox_in 29
+pub outbox_width : (o : Outbox) → OutboxShaped o → length (outbox_numbers o) ≡ 29
 unfolding outbox_numbers
-outbox_back = record {
-  width = λ o e. behind (plain o.count) (each message_numbers o.messages) 1 28 29 refl ((messages_back 4).width o.messages (many_any 4 o.messages e)) refl;
-  reads = outbox_reads;
-}
+outbox_width o e = behind (plain o.count) (each message_numbers o.messages) 1 28 29 refl ((messages_back 4).width o.messages (many_any 4 o.messages e)) refl
+
+pub outbox_back : Back OutboxShaped outbox_numbers outbox_in 29
+outbox_back = record { width = outbox_width; reads = outbox_reads }
 
 -- A facade, in the same way.
 module _ (f : Facade) where
@@ -323,29 +315,32 @@ module _ (f : Facade) where
     facade_width =
         behind to_clients (each message_numbers f.messages) 1882 896 2778 clients_width ((messages_back 128).width _ (many_any 128 _ h.messages)) refl
 
-    facade_reads : (l : List ℕ) → Holds l 0 (facade_numbers f) → facade_in l ≡ f
-    unfolding facade_numbers facade_in
-    facade_reads l k =
-        let k₅ = holds_left l 0 to_clients _ k in
-        let k₄ = holds_left l 0 to_servers _ k₅ in
-        let k₃ = holds_left l 0 (times_numbers f) _ k₄ in
-        let k₂ = holds_left l 0 to_offsets _ k₃ in
-        let k₁ = holds_left l 0 to_counts _ k₂ in
-        let k₀ = holds_right l 0 (config_numbers f.config) counts k₁ 7 (config_back.width f.config tt) in
-        let config = config_back.reads f.config tt l 0 (holds_left l 0 (config_numbers f.config) counts k₁) in
-        let offsets = offsets_back.reads f.offsets h.offsets l 10 (holds_right l 0 to_counts _ k₂ 10 counts_width) in
-        let notices = (plains_back 16).reads f.notices (many_any 16 f.notices h.notices) l 46 (holds_right l 0 to_offsets _ k₃ 46 offsets_width) in
-        let servers = servers_back.reads f.servers h.servers l 62 (holds_right l 0 (times_numbers f) _ k₄ 62 notices_width) in
-        let clients = clients_back.reads f.clients (many_any 32 f.clients h.clients) l 1754 (holds_right l 0 to_servers _ k₅ 1754 servers_width) in
-        let messages = (messages_back 128).reads f.messages (many_any 128 f.messages h.messages) l 1882 (holds_right l 0 to_clients _ k 1882 clients_width) in
-        rw (config, k₀ 0 (omega arith), k₀ 1 (omega arith), k₀ 2 (omega arith), offsets, notices, servers, clients, messages)
+    facade_reads : (l : List ℕ) (p : ℕ) → Holds l p (facade_numbers f) → facade_at l p ≡ f
+    unfolding config_numbers facade_numbers facade_at
+    facade_reads l p k =
+        let k₅ = holds_left l p to_clients _ k in
+        let k₄ = holds_left l p to_servers _ k₅ in
+        let k₃ = holds_left l p (times_numbers f) _ k₄ in
+        let k₂ = holds_left l p to_offsets _ k₃ in
+        let k₁ = holds_left l p to_counts _ k₂ in
+        let config = config_back.reads f.config tt l p (holds_left l p (config_numbers f.config) counts k₁) in
+        let offsets = offsets_back.reads f.offsets h.offsets l (p + 10) (holds_right l p to_counts _ k₂ 10 counts_width) in
+        let notices = (plains_back 16).reads f.notices (many_any 16 f.notices h.notices) l (p + 46) (holds_right l p to_offsets _ k₃ 46 offsets_width) in
+        let servers = servers_back.reads f.servers h.servers l (p + 62) (holds_right l p (times_numbers f) _ k₄ 62 notices_width) in
+        let clients = clients_back.reads f.clients (many_any 32 f.clients h.clients) l (p + 1754) (holds_right l p to_servers _ k₅ 1754 servers_width) in
+        let messages = (messages_back 128).reads f.messages (many_any 128 f.messages h.messages) l (p + 1882) (holds_right l p to_clients _ k 1882 clients_width) in
+        rw (config, k₁ 7 (omega (arith, counts_width)), k₁ 8 (omega (arith, counts_width)), k₁ 9 (omega (arith, counts_width)), offsets, notices, servers, clients, messages)
 
-    -- the law: what was written reads back, and codes
-    pub facade_back : facade_in (facade_numbers f) ≡ f
-    facade_back = facade_reads (facade_numbers f) (holds_all (facade_numbers f))
+pub whole_back : Back FacadeShaped facade_numbers facade_at 2778
+whole_back = record { width = facade_width; reads = facade_reads }
 
-    pub facade_coded : codes_facade (facade_numbers f) ≡ true
-    facade_coded = codes_own facade_numbers facade_in 2778 f facade_width facade_back
+-- the law: what was written reads back, and codes
+
+pub facade_back : (f : Facade) → FacadeShaped f → facade_in (facade_numbers f) ≡ f
+facade_back = own_reads FacadeShaped facade_numbers facade_at 2778 whole_back
+
+pub facade_coded : (f : Facade) → FacadeShaped f → codes_facade (facade_numbers f) ≡ true
+facade_coded = own_coded FacadeShaped facade_numbers facade_at 2778 whole_back
 
 -- The same of a server, a client and a message by itself.
 

@@ -10,7 +10,7 @@ use lib.ListN.{length, get_or, take, length-append, get_or-append}
 use lib.Seq.{get_or-append-add, take-suc, take_all, ext_get_or}
 use Rattle.rules.proofs.Laws.{true_of, and_l, and_r, and_both, all_at, all_by}
 use Rattle.flat.specs.Blocks.{each, table, each_in, is_same, codes}
-use Rattle.flat.specs.Shape.{Each, Has}
+use Rattle.flat.specs.Shape.{Any, Each, Has}
 
 -- l has the numbers v from place p on
 abbrev pub Holds : List ℕ → ℕ → List ℕ → Type 0
@@ -73,10 +73,6 @@ pub record Back {A : Type 0} (P : A → Type 0) (numbers : A → List ℕ) (read
   pub width : (x : A) → P x → length (numbers x) ≡ w
   pub reads : (x : A) → P x → (l : List ℕ) (p : ℕ) → Holds l p (numbers x) → read l p ≡ x
 
--- no shape is asked of a value
-abbrev pub Any : {A : Type 0} → A → Type 0
-Any x = Unit
-
 each_any : {A : Type 0} (xs : List A) → Each Any xs
 each_any [] = tt
 each_any (x ∷ xs) = (tt, each_any xs)
@@ -101,8 +97,8 @@ same_eq v l t =
     let a = and_r (eqb (length v) (length l)) _ t in
     ext_get_or 0 v l e (λ i h. eqb→eq _ _ (all_at _ (length l) a i (omega arith)))
 
-module _ {A : Type 0} (numbers : A → List ℕ) (read : List ℕ → A) (w : ℕ) where
-  pub codes_own : (x : A) → length (numbers x) ≡ w → read (numbers x) ≡ x → codes numbers read w (numbers x) ≡ true
+module _ {A : Type 0} (numbers : A → List ℕ) (read : List ℕ → ℕ → A) (w : ℕ) where
+  pub codes_own : (x : A) → length (numbers x) ≡ w → read (numbers x) 0 ≡ x → codes numbers read w (numbers x) ≡ true
   unfolding codes
   codes_own x e r =
       let wide : T (eqb (length (numbers x)) w) = rw e (eqb_refl w) in
@@ -112,13 +108,13 @@ module _ {A : Type 0} (numbers : A → List ℕ) (read : List ℕ → A) (w : �
   unfolding codes
   coded_length l e =
       let t : T (codes numbers read w l) = rw e tt in
-      eqb→eq (length l) w (and_l (eqb (length l) w) (is_same (numbers (read l)) l) t)
+      eqb→eq (length l) w (and_l (eqb (length l) w) (is_same (numbers (read l 0)) l) t)
 
-  pub coded : (l : List ℕ) → codes numbers read w l ≡ true → numbers (read l) ≡ l
+  pub coded : (l : List ℕ) → codes numbers read w l ≡ true → numbers (read l 0) ≡ l
   unfolding codes
   coded l e =
       let t : T (codes numbers read w l) = rw e tt in
-      same_eq (numbers (read l)) l (and_r (eqb (length l) w) (is_same (numbers (read l)) l) t)
+      same_eq (numbers (read l 0)) l (and_r (eqb (length l) w) (is_same (numbers (read l 0)) l) t)
 
 -- so many values of a shape, one behind the other
 module _ {A : Type 0} (P : A → Type 0) (numbers : A → List ℕ) (read : List ℕ → ℕ → A) (w : ℕ) (b : Back P numbers read w) where
@@ -142,5 +138,5 @@ module _ {A : Type 0} (P : A → Type 0) (numbers : A → List ℕ) (read : List
   pub own_reads : (x : A) → P x → read (numbers x) 0 ≡ x
   own_reads x h = b.reads x h (numbers x) 0 (holds_all (numbers x))
 
-  pub own_coded : (x : A) → P x → codes numbers (λ l. read l 0) w (numbers x) ≡ true
-  own_coded x h = codes_own numbers (λ l. read l 0) w x (b.width x h) (own_reads x h)
+  pub own_coded : (x : A) → P x → codes numbers read w (numbers x) ≡ true
+  own_coded x h = codes_own numbers read w x (b.width x h) (own_reads x h)

@@ -1,3 +1,4 @@
 pub mod Blocks
 pub mod Back
 pub mod Made
+pub mod Laws

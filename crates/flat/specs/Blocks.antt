@@ -21,5 +21,5 @@ unfoldable pub is_same : List ℕ → List ℕ → Bool
 is_same v l = eqb (length v) (length l) and all (λ i. eqb (get_or v i 0) (get_or l i 0)) (length l)
 
 -- whether a list has so many numbers and is the flat form of what it reads as
-unfoldable pub codes : {A : Type 0} → (A → List ℕ) → (List ℕ → A) → ℕ → List ℕ → Bool
-codes numbers read width l = eqb (length l) width and is_same (numbers (read l)) l
+unfoldable pub codes : {A : Type 0} → (A → List ℕ) → (List ℕ → ℕ → A) → ℕ → List ℕ → Bool
+codes numbers read width l = eqb (length l) width and is_same (numbers (read l 0)) l

@@ -58,33 +58,37 @@ config_in l p = record {
   retention = number_in l (p + 6);
 }
 
+-- None, or two numbers behind a 1: g and h give them, and `some` makes of them what they stand for.
+
+abbrev pub option_numbers : {A : Type 0} → (A → ℕ) → (A → ℕ) → Option A → List ℕ
+option_numbers g h None = 0 ∷ 0 ∷ 0 ∷ []
+option_numbers g h (Some x) = 1 ∷ g x ∷ h x ∷ []
+
+abbrev pub option_in : {A : Type 0} → (ℕ → ℕ → Option A) → List ℕ → ℕ → Option A
+option_in some l p = cond (flag_in l p) (some (number_in l (p + 1)) (number_in l (p + 2))) None
+
 -- "the reservation: 0, 0, 0 for none; 1, κ, clock reading"
 
 abbrev pub reservation_numbers : Option Reservation → List ℕ
-reservation_numbers None = 0 ∷ 0 ∷ 0 ∷ []
-reservation_numbers (Some x) = 1 ∷ x.interaction ∷ x.reading ∷ []
-
-unfoldable pub reserved_of : ℕ → ℕ → ℕ → Option Reservation
-reserved_of k a b = cond (eqb k 1) (taken a b) None
+reservation_numbers = option_numbers (λ x. x.interaction) (λ x. x.reading)
 
 abbrev pub reservation_in : List ℕ → ℕ → Option Reservation
-reservation_in l p = reserved_of (number_in l p) (number_in l (p + 1)) (number_in l (p + 2))
+reservation_in = option_in taken
 
 -- "the open write: 0, 0, 0 for none; 1, κ, end; then for each server a flag: acknowledged"
 
 abbrev pub pending_numbers : Option Pending → List ℕ
-pending_numbers None = 0 ∷ 0 ∷ 0 ∷ []
-pending_numbers (Some x) = 1 ∷ x.interaction ∷ x.end ∷ []
+pending_numbers = option_numbers (λ x. x.interaction) (λ x. x.end)
 
-unfoldable pub pending_of : ℕ → ℕ → ℕ → Option Pending
-pending_of k a b = cond (eqb k 1) (open_write a b) None
+abbrev pub pending_in : List ℕ → ℕ → Option Pending
+pending_in = option_in open_write
 
 unfoldable pub write_numbers : OpenWrite → List ℕ
 write_numbers w = pending_numbers w.pending ++ each flag_numbers w.acked
 
 unfoldable pub write_in : List ℕ → ℕ → OpenWrite
 write_in l p = record {
-  pending = pending_of (number_in l p) (number_in l (p + 1)) (number_in l (p + 2));
+  pending = pending_in l p;
   acked = each_in flag_in 1 4 l (p + 3);
 }
 
@@ -202,30 +206,34 @@ facade_numbers f =
     ++ each client_numbers f.clients
     ++ each message_numbers f.messages
 
-unfoldable pub facade_in : List ℕ → Facade
-facade_in l = record {
-  config = config_in l 0;
-  time = number_in l 7;
-  next = number_in l 8;
-  offsets = each_in offset_in 1 36 l 10;
-  servers = each_in server_in 423 4 l 62;
-  notices = each_in number_in 1 16 l 46;
-  clients = each_in client_in 4 32 l 1754;
-  messages = each_in message_in 7 128 l 1882;
-  waiting = number_in l 9;
+unfoldable pub facade_at : List ℕ → ℕ → Facade
+facade_at l p = record {
+  config = config_in l p;
+  time = number_in l (p + 7);
+  next = number_in l (p + 8);
+  offsets = each_in offset_in 1 36 l (p + 10);
+  servers = each_in server_in 423 4 l (p + 62);
+  notices = each_in number_in 1 16 l (p + 46);
+  clients = each_in client_in 4 32 l (p + 1754);
+  messages = each_in message_in 7 128 l (p + 1882);
+  waiting = number_in l (p + 9);
 }
+
+-- in a list of its own
+abbrev pub facade_in : List ℕ → Facade
+facade_in l = facade_at l 0
 
 -- Which lists code something: "Every facade, its unused places too, has exactly one flat form, and a list that is no facade's
 -- flat form codes nothing."
 
 abbrev pub codes_facade : List ℕ → Bool
-codes_facade = codes facade_numbers facade_in 2778
+codes_facade = codes facade_numbers facade_at 2778
 
 abbrev pub codes_server : List ℕ → Bool
-codes_server = codes server_numbers (λ l. server_in l 0) 423
+codes_server = codes server_numbers server_in 423
 
 abbrev pub codes_client : List ℕ → Bool
-codes_client = codes client_numbers (λ l. client_in l 0) 4
+codes_client = codes client_numbers client_in 4
 
 abbrev pub codes_message : List ℕ → Bool
-codes_message = codes message_numbers (λ l. message_in l 0) 7
+codes_message = codes message_numbers message_in 7

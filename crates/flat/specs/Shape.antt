@@ -7,6 +7,10 @@ use Rattle.types.specs.declared.Server.{Server}
 use Rattle.types.specs.declared.Outbox.{Outbox}
 use Rattle.types.specs.declared.Facade.{Facade}
 
+-- no shape is asked of a value
+abbrev pub Any : {A : Type 0} → A → Type 0
+Any x = Unit
+
 -- P holds of each element
 abbrev pub Each : {A : Type 0} → (A → Type 0) → List A → Type 0
 Each P [] = Unit

@@ -8,17 +8,21 @@ use script::FIRST_RECORD;
 use std::fs::File;
 use std::io::Write;
 use std::{env, io};
-use types::Config;
+use types::{Config, Refusal};
 
 // A pass of no time, then a step of no known kind: the first is refused.
 const TWO_WRONG: [u32; 8] = [1, 0, 0, 0, 99, 0, 0, 0];
+
+// The number of the verdict on a script, 0 if it is accepted.
+fn verdict(s: &[u8]) -> u32 {
+    script::verdict(s).err().map_or(0, u32::from)
+}
 
 // The name of a script and its verdict.
 fn judge(to: &mut impl Write, name: &str, mut file: File) -> io::Result<()> {
     let mut bytes = [0u8; 65537];
     let k = read_full(&mut file, &mut bytes)?;
-    let verdict = script::verdict(&bytes[..k]);
-    writeln!(to, "{name} {verdict}")
+    writeln!(to, "{name} {}", verdict(&bytes[..k]))
 }
 
 // Bytes in hexadecimal, on one line.
@@ -34,8 +38,7 @@ fn print_bytes(to: &mut impl Write, b: &[u8]) -> io::Result<()> {
 fn print_steps(to: &mut impl Write, s: &[u8]) -> io::Result<()> {
     let mut p = FIRST_RECORD;
     // where the next record begins is known when this one is read, so this is no `for`
-    while p < s.len() {
-        let r = script::record_at(s, p);
+    while let Ok(r) = script::record_at(s, p) {
         let x = r.step;
         writeln!(to, "step {} {} {} {}", x.kind, x.first, x.second, x.third)?;
         p = r.next;
@@ -43,9 +46,12 @@ fn print_steps(to: &mut impl Write, s: &[u8]) -> io::Result<()> {
     Ok(())
 }
 
-// What the writer answers.
-fn print_written(to: &mut impl Write, w: script::Written) -> io::Result<()> {
-    writeln!(to, "written {} {}", w.refusal, w.length)
+// What the writer answers: a refusal's number and length 0, or 0 and how long the script is.
+fn print_written(to: &mut impl Write, w: Result<usize, Refusal>) -> io::Result<()> {
+    match w {
+        Ok(length) => writeln!(to, "written 0 {length}"),
+        Err(n) => writeln!(to, "written {} 0", u32::from(n)),
+    }
 }
 
 // Writes into the buffer and prints the answer and the bytes after it.
@@ -58,8 +64,7 @@ fn try_writer(to: &mut impl Write, c: Config, rows: &[u32], out: &mut [u8]) -> i
 fn show_example(to: &mut impl Write, c: Config) -> io::Result<()> {
     let mut out = [0u8; 189];
     try_writer(to, c, EXAMPLE.as_flattened(), &mut out)?;
-    let verdict = script::verdict(&out);
-    writeln!(to, " {verdict}")?;
+    writeln!(to, " {}", verdict(&out))?;
     print_steps(to, &out)
 }
 

@@ -1,11 +1,12 @@
-// What a party sends: an outbox of at most four messages, in the order sent.
+// What a party sends: an outbox of at most four messages, in the order sent. And what it answers where it sends nothing.
 #![tactic(auto)]
 
 ghost use Rattle.std.specs.Prelude.{◌≡◌, ◌≤◌};
+ghost use Rattle.types.specs.declared.Outcome.TheVariants.{Done};
 ghost use Rattle.rules.specs.Parts.{message, no_message};
-ghost use Rattle.rules.specs.Messages.{nothing as nothing', post as post', to_each, to_others};
+ghost use Rattle.rules.specs.Messages.{nothing as nothing', answer, post as post', to_each, to_others};
 
-use types::{Body, Message, Outbox};
+use types::{Body, Message, Outbox, Outcome, Reaction};
 
 // No message: what an unused place holds.
 pub fn no_message() -> Message
@@ -25,6 +26,17 @@ pub fn nothing() -> Outbox
     Outbox {
         count: 0,
         messages: [no_message(); 4],
+    }
+}
+
+// What a party is when something is done, with nothing sent.
+pub fn done<T>(x: T) -> Reaction<T>
+    ensures { result ≡ answer x Done nothing' }
+{
+    Reaction {
+        after: x,
+        outcome: Outcome::Done,
+        outbox: nothing(),
     }
 }
 

@@ -1,16 +1,16 @@
 // Refusal 2: the ranges of a configuration and of a facade handed in.
 #![tactic(auto)]
 
-ghost use Rattle.std.specs.Prelude.{◌≡◌, ◌≤◌, ◌<◌, leb};
+ghost use Rattle.std.specs.Prelude.{◌≡◌, ◌≤◌, ◌<◌, leb, get_or};
 ghost use Rattle.rules.specs.Conditions.{◌and◌, is_within, all};
-ghost use Rattle.rules.specs.Parts.{server_at, state_at, message_at, offset_at, parties};
+ghost use Rattle.rules.specs.Parts.{server_at, state_at, message_at, offset_at, offset_of, no_server, no_client, no_message, parties};
 ghost use Rattle.rules.specs.Ranges.{config_in_range, interaction_in_range, offset_in_range, reservation_in_range, write_in_range, address_in_range, server_in_range, notice_in_range, state_in_range, is_client, body_in_range, message_in_range, in_range, last_time, after_last, most_waiting};
 ghost use Rattle.rules.proofs.Kept.{Configured};
 
 use arith::{is_within, not_negative};
 use types::{
-    AFTER_LAST, Body, Config, Facade, LAST_END, LAST_READING, LAST_TIME, MOST_WAITING, Message,
-    Pending, Reservation, Server, State,
+    AFTER_LAST, Body, Client, Config, Facade, LAST_END, LAST_READING, LAST_TIME, MOST_WAITING,
+    Message, Pending, Reservation, Server, State,
 };
 
 // Whether the seven numbers of a configuration are in range.
@@ -148,102 +148,91 @@ pub fn message_in_range(c: Config, n: u32, m: Message) -> bool
     interaction_in_range(n, m.interaction) && body_in_range(c, m.sender, m.receiver, m.body)
 }
 
-fn offsets_in_range(f: Facade) -> bool
-    requires { Configured f.config }
-    ensures { result ≡ all (λ p. offset_in_range f.config f.time (offset_at f p)) (parties f.config) }
+fn offsets_in_range(c: Config, t: u32, os: &[i32; 36]) -> bool
+    requires { Configured c }
+    ensures { result ≡ all (λ p. offset_in_range c t (offset_of os.now p)) (parties c) }
 {
-    let c = f.config;
     let count = (c.servers + c.clients) as usize;
-    f.offsets[..count]
-        .iter()
-        .all(|o| offset_in_range(c, f.time, *o))
+    os[..count].iter().all(|o| offset_in_range(c, t, *o))
 }
 
-fn servers_in_range(f: Facade) -> bool
-    requires { Configured f.config }
-    ensures { result ≡ all (λ k. server_in_range f.config f.time f.next (server_at f k)) f.config.servers }
+fn servers_in_range(c: Config, t: u32, n: u32, ss: &[Server; 4]) -> bool
+    requires { Configured c }
+    ensures { result ≡ all (λ k. server_in_range c t n (get_or ss.now k no_server)) c.servers }
 {
-    let c = f.config;
     let count = c.servers as usize;
-    f.servers[..count]
-        .iter()
-        .all(|s| server_in_range(c, f.time, f.next, *s))
+    ss[..count].iter().all(|s| server_in_range(c, t, n, *s))
 }
 
 // The notice time of server k about server j.
 #[tactic(auto, using(rules::proofs::Laws::tests), unfolding(rules::specs::Ranges::notice_in_range))]
-fn notice_in_range(f: Facade, k: u32, j: u32) -> bool
+fn notice_in_range(f: &Facade, k: u32, j: u32) -> bool
     requires { (k < 4) × (j < 4) }
-    ensures { result ≡ notice_in_range f k j }
+    ensures { result ≡ notice_in_range f.now k j }
 {
     j == k || f.notices[(k * 4 + j) as usize] <= f.time
 }
 
 // The notice times of server k.
-fn row_in_range(f: Facade, k: u32) -> bool
-    requires { Configured f.config × (k < 4) }
-    ensures { result ≡ all (notice_in_range f k) f.config.servers }
+fn row_in_range(f: &Facade, k: u32) -> bool
+    requires { Configured f.now.config × (k < 4) }
+    ensures { result ≡ all (notice_in_range f.now k) f.now.config.servers }
 {
     (0..f.config.servers).all(|j| notice_in_range(f, k, j))
 }
 
-fn notices_in_range(f: Facade) -> bool
-    requires { Configured f.config }
-    ensures { result ≡ all (λ k. all (notice_in_range f k) f.config.servers) f.config.servers }
+fn notices_in_range(f: &Facade) -> bool
+    requires { Configured f.now.config }
+    ensures { result ≡ all (λ k. all (notice_in_range f.now k) f.now.config.servers) f.now.config.servers }
 {
     (0..f.config.servers).all(|k| row_in_range(f, k))
 }
 
-fn clients_in_range(f: Facade) -> bool
-    requires { Configured f.config }
-    ensures { result ≡ all (λ i. state_in_range f.config f.next (state_at f i)) f.config.clients }
+fn clients_in_range(c: Config, n: u32, ys: &[Client; 32]) -> bool
+    requires { Configured c }
+    ensures { result ≡ all (λ i. state_in_range c n (get_or ys.now i no_client).state) c.clients }
 {
-    let c = f.config;
     let count = c.clients as usize;
-    f.clients[..count]
-        .iter()
-        .all(|y| state_in_range(c, f.next, y.state))
+    ys[..count].iter().all(|y| state_in_range(c, n, y.state))
 }
 
-fn messages_in_range(f: Facade) -> bool
-    requires { Configured f.config × (f.waiting ≤ 128) }
-    ensures { result ≡ all (λ p. message_in_range f.config f.next (message_at f p)) f.waiting }
+fn messages_in_range(c: Config, n: u32, waiting: u32, ms: &[Message; 128]) -> bool
+    requires { Configured c × (waiting ≤ 128) }
+    ensures { result ≡ all (λ p. message_in_range c n (get_or ms.now p no_message)) waiting }
 {
-    let c = f.config;
-    let count = f.waiting as usize;
-    f.messages[..count]
-        .iter()
-        .all(|m| message_in_range(c, f.next, *m))
+    let count = waiting as usize;
+    ms[..count].iter().all(|m| message_in_range(c, n, *m))
 }
 
 // The places of a facade: the offsets, servers, notices, clients and messages.
 #[tactic(auto, using(rules::proofs::Laws::tests))]
-fn places_in_range(f: Facade) -> bool
-    requires { Configured f.config × (f.waiting ≤ 128) }
-    ensures { result ≡ (all (λ p. offset_in_range f.config f.time (offset_at f p)) (parties f.config)
-        and all (λ k. server_in_range f.config f.time f.next (server_at f k)) f.config.servers
-        and all (λ k. all (notice_in_range f k) f.config.servers) f.config.servers
-        and all (λ i. state_in_range f.config f.next (state_at f i)) f.config.clients
-        and all (λ p. message_in_range f.config f.next (message_at f p)) f.waiting) }
+fn places_in_range(f: &Facade) -> bool
+    requires { Configured f.now.config × (f.now.waiting ≤ 128) }
+    ensures { result ≡ (all (λ p. offset_in_range f.now.config f.now.time (offset_at f.now p)) (parties f.now.config)
+        and all (λ k. server_in_range f.now.config f.now.time f.now.next (server_at f.now k)) f.now.config.servers
+        and all (λ k. all (notice_in_range f.now k) f.now.config.servers) f.now.config.servers
+        and all (λ i. state_in_range f.now.config f.now.next (state_at f.now i)) f.now.config.clients
+        and all (λ p. message_in_range f.now.config f.now.next (message_at f.now p)) f.now.waiting) }
 {
-    offsets_in_range(f)
-        && servers_in_range(f)
+    let c = f.config;
+    offsets_in_range(c, f.time, &f.offsets)
+        && servers_in_range(c, f.time, f.next, &f.servers)
         && notices_in_range(f)
-        && clients_in_range(f)
-        && messages_in_range(f)
+        && clients_in_range(c, f.next, &f.clients)
+        && messages_in_range(c, f.next, f.waiting, &f.messages)
 }
 
 // Whether true time, the next interaction and the waiting count are in range.
 #[tactic(auto, using(rules::proofs::Laws::tests))]
-fn numbers_in_range(f: Facade) -> bool
-    ensures { result ≡ (leb f.time last_time and is_within 1 after_last f.next and leb f.waiting most_waiting) }
+fn numbers_in_range(f: &Facade) -> bool
+    ensures { result ≡ (leb f.now.time last_time and is_within 1 after_last f.now.next and leb f.now.waiting most_waiting) }
 {
     f.time <= LAST_TIME && is_within(1, AFTER_LAST, f.next) && f.waiting <= MOST_WAITING
 }
 
 // Whether every number of a facade is in its range.
-pub fn in_range(f: Facade) -> bool
-    ensures { result ≡ in_range f }
+pub fn in_range(f: &Facade) -> bool
+    ensures { result ≡ in_range f.now }
 {
     if config_in_range(f.config) {
         if numbers_in_range(f) {

@@ -9,13 +9,12 @@ use lib.Dec.{leb}
 use lib.ListN.{length, take, drop}
 use lib.Seq.{take-append_seam}
 use Rattle.types.specs.declared.Facade.{Facade}
-use Rattle.types.specs.declared.Answer.{Answer}
+use Rattle.rules.specs.Answers.{Answer}
 use Rattle.rules.specs.Steps.{step, held_clients}
 use Rattle.rules.proofs.Laws.{cond_case, not_eqb}
 use Rattle.wire.specs.Numbers.{over}
 use Rattle.wire.proofs.Over.{over_length}
-use Rattle.script.specs.Reading.{record_at}
-use Rattle.script.specs.declared.Record.{Record}
+use Rattle.script.specs.Reading.{Found, record_at}
 use Rattle.turns.specs.declared.Progress.{Progress}
 use Rattle.turns.specs.Turns.{before, answer_line, ends_at, last_lines, lines_from, progress_from, UnderWay}
 use Rattle.replay.specs.Output.{first_line, beginning, output, piece_turns, most_piece}
@@ -37,7 +36,7 @@ pub pieces_join : (s : List ℕ) (n m : ℕ) (f : Facade) (p k : ℕ) → lines_
 unfolding lines_from progress_from
 pieces_join s zero m f p k = ap (λ (j : ℕ). lines_from j f s p k) (none_more m)
 pieces_join s (suc n) m f p k = rw (one_more n m) (go (pieces_join s n m x.facade r.next (k + 1)) (ends_at s p)) where
-  r : Record
+  r : Found
   r = record_at s p
 
   x : Answer

@@ -1,22 +1,26 @@
 -- The output of a whole script, and the buffer that it is put into.
 use mathlib.Core.Path.{◌≡◌, refl, sym, ap, ◌∙◌}
-use mathlib.Core.Bool.{Bool, true, false, not, cond}
+use mathlib.Core.Bool.{Bool, true, false, cond}
 use mathlib.Core.List.{List, ◌++◌, append-nil}
 use Prim.Native.Nat.{ℕ, ◌+◌, ◌≤◌, ◌<◌}
 use native.Mathlib.Omega.{arith}
 use lib.Dec.{T, eqb, leb, leb→le, eqb→eq}
 use lib.ListN.{length, length-append}
-use borrow.Author.Tests.{le-leb, lt-leb, eq-eqb, ne_eqb, not-false}
+use borrow.Author.Tests.{le-leb, lt-leb, ne_eqb, not-false}
+use Rattle.std.specs.Prelude.{Result, Ok, Err}
+use Rattle.std.specs.Result.{is_err}
+use Rattle.types.specs.declared.Config.{Config}
+use Rattle.types.specs.declared.Refusal.{Refusal}
+use Rattle.types.specs.Numbers.{refusal_number, refusal_of}
 use Rattle.rules.specs.Ranges.{config_in_range}
-use Rattle.types.specs.declared.Answer.{Answer}
-use Rattle.rules.specs.Steps.{fresh, start}
+use Rattle.rules.specs.Steps.{fresh}
+use Rattle.rules.proofs.Refusals.{is_some_refusal}
 use Rattle.rules.proofs.Laws.{and_l, cond_case, unless_ok, within_high}
 use Rattle.rules.proofs.Ranges.{fresh_sound}
 use Rattle.rules.proofs.Bounds.{unless_high}
 use Rattle.wire.specs.Numbers.{over}
 use Rattle.wire.proofs.Over.{over_length}
-use Rattle.script.specs.Reading.{longest, is_script, no_config, config_read, header_in}
-use Rattle.script.specs.declared.Header.{Header}
+use Rattle.script.specs.Reading.{Header, longest, is_script, no_config, config_read, header_in}
 use Rattle.report.specs.Lines.{record_line, facade_line}
 use Rattle.report.proofs.Laws.{Put, record_line_short, facade_line_short}
 use Rattle.turns.specs.declared.Progress.{Progress}
@@ -39,23 +43,25 @@ all_is_put s l r h p = rw (le-leb most_output (length l) h) (omega arith, p.1)
 pub first_is_put : (l m s v : List ℕ) (r : ℕ) → v ≡ first_line s → Put l 0 v r m → (r ≡ length (first_line s)) × (m ≡ over l 0 (first_line s))
 first_is_put l m s v r e p = rw (← e) (omega (arith, p.0), p.1)
 
+-- where the header is refused, its number has a line of its own
+pub refused_first : (s : List ℕ) (n : Refusal) → refusal_number n ≡ (header_in s).refusal → record_line 0 (refusal_number n) 0 0 0 ≡ first_line s
+unfolding first_line
+refused_first s n e = rw (← e, ne_eqb (refusal_number n) 0 (is_some_refusal n))
+
+-- any other has the first line
+pub accepted_first : (s : List ℕ) (c : Config) → 0 ≡ (header_in s).refusal → c ≡ (header_in s).config → facade_line c ≡ first_line s
+unfolding first_line
+accepted_first s c e q = rw (← e, q)
+
+-- the run begins with the fresh facade of the configuration, and has ended where it is refused
+pub begins : (s : List ℕ) (c : Config) (h : Result Config Refusal) → c ≡ (header_in s).config → refusal_of h ≡ (header_in s).refusal
+    → before (fresh c) 29 1 (is_err h) ≡ beginning s
+unfolding beginning
+begins s c (Ok x) q e = rw (q, ← e)
+begins s c (Err n) q e = rw (q, ← e, ne_eqb (refusal_number n) 0 (is_some_refusal n))
+
 -- where h is the header
 module _ (s : List ℕ) (h : Header) (e : h ≡ header_in s) where
-  -- the run begins with the fresh facade, and has ended where it is refused
-  pub begins : (x : Answer) → x ≡ start h.config → before x.facade 29 1 (not (eqb h.refusal 0)) ≡ beginning s
-  unfolding beginning start
-  begins x d = rw (d, e)
-
-  -- a refused one has a line of its own
-  pub refused_first : (h.refusal ≡ 0 → ⊥) → record_line 0 h.refusal 0 0 0 ≡ first_line s
-  unfolding first_line
-  refused_first t = rw (← e, ne_eqb h.refusal 0 t)
-
-  -- any other has the first line
-  pub accepted_first : h.refusal ≡ 0 → facade_line h.config ≡ first_line s
-  unfolding first_line
-  accepted_first t = rw (← e, eq-eqb h.refusal 0 t)
-
   -- and is that of a script, which is not too long
   pub accepted_is_short : h.refusal ≡ 0 → length s ≤ longest
   unfolding header_in
@@ -97,8 +103,6 @@ begins_under_way s e =
     let ok : h.refusal ≡ 0 = eqb→eq h.refusal 0 (rw q tt) in
     record {
       sound = fresh_sound h.config (accepted_is_ranged s h refl ok);
-      servers = refl;
-      clients = refl;
       counted = omega arith;
       placed = omega arith;
       short = accepted_is_short s h refl ok;

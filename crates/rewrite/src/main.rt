@@ -1,6 +1,6 @@
 // Reads a script and writes it again. Prints the verdict on the script; the writer's refusal and how many bytes it wrote; and
-// those bytes. The writer is handed the configuration of the header and the steps of the records up to the first that is refused
-// with 3.
+// those bytes. The writer is handed the seven numbers of the header, all 0 where there is no script, and the steps of the records
+// up to the first that is refused with 3.
 #![tactic(auto)]
 
 ghost use Rattle.std.specs.Prelude.{◌≤◌, length};
@@ -18,10 +18,9 @@ fn read_rows(s: &[u8], rows: &mut [[u32; 4]]) -> usize
 {
     let mut p = FIRST_RECORD;
     for (n, row) in rows.iter_mut().enumerate() {
-        let r = script::record_at(s, p);
-        if r.refusal == 3 {
+        let Ok(r) = script::record_at(s, p) else {
             return n;
-        }
+        };
         let x = r.step;
         *row = [x.kind, x.first, x.second, x.third];
         p = r.next;
@@ -37,9 +36,13 @@ fn print_again(
     rows: &[[u32; 4]],
     out: &mut [u8],
 ) -> io::Result<()> {
-    let w = writer::write(c, rows.as_flattened(), out);
-    writeln!(to, "{} {}", w.refusal, w.length)?;
-    to.write_all(&out[..w.length])
+    match writer::write(c, rows.as_flattened(), out) {
+        Ok(length) => {
+            writeln!(to, "0 {length}")?;
+            to.write_all(&out[..length])
+        }
+        Err(n) => writeln!(to, "{} 0", u32::from(n)),
+    }
 }
 
 fn main(rt: HostRuntime) -> io::Result<()> {
@@ -47,12 +50,12 @@ fn main(rt: HostRuntime) -> io::Result<()> {
     let mut script = [0u8; 65537];
     let n = read_full(&mut rt.stdin(), &mut script)?;
     let s = &script[..n];
-    let verdict = script::verdict(s);
+    let verdict = script::verdict(s).err().map_or(0, u32::from);
     let mut stdout = rt.stdout();
     writeln!(stdout, "{verdict}")?;
-    let h = script::header_in(s);
+    let c = script::config_in(s).unwrap_or_default();
     let mut rows = [[0u32; 4]; 32768];
     let k = read_rows(s, &mut rows);
     let mut out = [0u8; 65536];
-    print_again(&mut stdout, h.config, &rows[..k], &mut out)
+    print_again(&mut stdout, c, &rows[..k], &mut out)
 }

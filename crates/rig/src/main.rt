@@ -14,15 +14,13 @@ fn print_run<W: Write>(to: &mut W, s: &[u8]) -> io::Result<()>
     ensures { OnOk result (Appends (W.contents to.old) (W.contents to.new) (output s.now)) }
 {
     let mut out = [0u8; 65536];
-    let first = replay::begin(s, &mut out);
+    let (mut r, first) = replay::begin(s, &mut out);
     // what follows a piece that could not be written would not stand behind it
-    to.write_all(&out[..first.end])?;
-    let mut r = first.progress;
+    to.write_all(&out[..first])?;
     // the run itself says when it has ended, so the pieces have no count
     while !r.ended {
-        let next = replay::go_on(s, r, &mut out);
-        to.write_all(&out[..next.end])?;
-        r = next.progress;
+        let next = replay::go_on(s, &mut r, &mut out);
+        to.write_all(&out[..next])?;
     }
     Ok(())
 }

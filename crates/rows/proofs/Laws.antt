@@ -1,7 +1,7 @@
 -- Laws of steps in rows: their first refusal and their records.
 use mathlib.Core.Path.{◌≡◌, refl, sym, ap, ◌∙◌}
 use mathlib.Core.List.{List, [], ◌∷◌, ◌++◌, append_assoc, append-nil}
-use Prim.Native.Nat.{ℕ, zero, suc, ◌+◌, ◌-◌, ◌*◌, ◌≤◌, ◌<◌}
+use Prim.Native.Nat.{ℕ, zero, suc, ◌+◌, ◌-◌, ◌*◌, ◌/◌, ◌≤◌, ◌<◌}
 use native.Mathlib.Nat.{add-zero, add-suc}
 use native.Mathlib.Omega.{arith}
 use borrow.Author.Tests.{ne_eqb}
@@ -9,7 +9,7 @@ use lib.ListN.{length, length-append}
 use Rattle.types.specs.declared.Step.{Step}
 use Rattle.script.specs.Layout.{step_refusal, record_of, records_of}
 use Rattle.script.specs.Reading.{or_else}
-use Rattle.script.specs.Writing.{row_at, rows, steps_refusal}
+use Rattle.script.specs.Writing.{row_at, rows, steps_in, steps_refusal}
 use Rattle.script.proofs.Canonical.{few_fields}
 use Rattle.script.proofs.Tests.{none_met}
 use Rattle.script.proofs.Records.{record_length}
@@ -101,33 +101,33 @@ module _ (l : List ℕ) (k : ℕ) where
   pub next_kept : steps_refusal (rows l k) ≡ 0 → step_refusal (row_at l k) ≡ 0 → steps_refusal (rows l (k + 1)) ≡ 0
   next_kept e f = next_refusal ∙ ap (λ (x : ℕ). or_else x (step_refusal (row_at l k))) e ∙ f
 
-  -- among the first m rows, the others behind it
-  module _ (m : ℕ) (h : k < m) where
+  -- among all rows, the others behind it
+  module _ (h : k < length l / 4) where
     abbrev rest : List Step
-    rest = later l (k + 1) (m - (k + 1))
+    rest = later l (k + 1) (length l / 4 - (k + 1))
 
-    split : rows l m ≡ rows l (k + 1) ++ rest
+    split : steps_in l ≡ rows l (k + 1) ++ rest
     split =
-        let e : m ≡ k + 1 + (m - (k + 1)) = omega arith in
-        ap (rows l) e ∙ rows_later l (k + 1) (m - (k + 1))
+        let e : length l / 4 ≡ k + 1 + (length l / 4 - (k + 1)) = omega arith in
+        ap (rows l) e ∙ rows_later l (k + 1) (length l / 4 - (k + 1))
 
-    split_refusal : steps_refusal (rows l m) ≡ or_else (steps_refusal (rows l (k + 1))) (steps_refusal rest)
+    split_refusal : steps_refusal (steps_in l) ≡ or_else (steps_refusal (rows l (k + 1))) (steps_refusal rest)
     split_refusal = ap steps_refusal split ∙ refusal_append (rows l (k + 1)) rest
 
     -- the first refusal is that of all
-    pub refused_at : steps_refusal (rows l k) ≡ 0 → (step_refusal (row_at l k) ≡ 0 → ⊥) → step_refusal (row_at l k) ≡ steps_refusal (rows l m)
+    pub refused_at : steps_refusal (rows l k) ≡ 0 → (step_refusal (row_at l k) ≡ 0 → ⊥) → step_refusal (row_at l k) ≡ steps_refusal (steps_in l)
     refused_at e n =
         let here = next_refusal ∙ ap (λ (x : ℕ). or_else x (step_refusal (row_at l k))) e in
         sym (split_refusal ∙ or_first _ _ (λ z. n (sym here ∙ z)) ∙ here)
 
     -- where none is refused, this one is not
-    pub kept_at : steps_refusal (rows l m) ≡ 0 → step_refusal (row_at l k) ≡ 0
+    pub kept_at : steps_refusal (steps_in l) ≡ 0 → step_refusal (row_at l k) ≡ 0
     kept_at e =
         let here = (none_met (steps_refusal (rows l (k + 1))) (steps_refusal rest) (sym split_refusal ∙ e)).0 in
         (none_met (steps_refusal (rows l k)) (step_refusal (row_at l k)) (sym next_refusal ∙ here)).1
 
     -- its record lies within the records of all
-    pub room_at : length (records_of (rows l k)) + length (record_of (row_at l k)) ≤ length (records_of (rows l m))
+    pub room_at : length (records_of (rows l k)) + length (record_of (row_at l k)) ≤ length (records_of (steps_in l))
     room_at =
         let e = ap (λ (ss : List Step). length (records_of ss)) split ∙ ap length (records_append (rows l (k + 1)) rest) in
         omega (arith, next_length, e, length-append (records_of (rows l (k + 1))) (records_of rest))

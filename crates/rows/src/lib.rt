@@ -3,13 +3,15 @@
 #![tactic(auto)]
 
 ghost use Rattle.std.specs.Prelude.{◌≡◌, ◌&&◌, ◌+◌, ◌*◌, ◌≤◌, nat_le, length};
+ghost use Rattle.types.specs.Numbers.{refusal_of};
 ghost use Rattle.script.specs.Layout.{records_of, first_record};
 ghost use Rattle.script.specs.Reading.{longest};
 ghost use Rattle.script.specs.Writing.{row_at, steps_in, steps_refusal, write_refusal};
 
+use arith::check;
 use ranges::config_in_range;
 use script::{LONGEST, fields_of, step_refusal};
-use types::{Config, Step};
+use types::{Config, Refusal, Step};
 
 // Row n of l.
 pub fn row_at(l: &[u32], n: usize) -> Step
@@ -25,20 +27,19 @@ pub fn row_at(l: &[u32], n: usize) -> Step
     }
 }
 
-// The first refusal among the steps, 0 if none.
-fn steps_refusal(l: &[u32]) -> u32
-    ensures { result ≡ steps_refusal (steps_in l.now) }
+// The first refusal among the steps.
+#[tactic(auto, using(crate::proofs::Laws::none_refused, crate::proofs::Laws::next_kept, crate::proofs::Laws::refused_at))]
+fn steps_refusal(l: &[u32]) -> Result<(), Refusal>
+    ensures { refusal_of result ≡ steps_refusal (steps_in l.now) }
 {
     for n in 0..l.len() / 4 {
-        let refusal = step_refusal(row_at(l, n));
-        if refusal != 0 {
-            return refusal;
-        }
+        step_refusal(row_at(l, n))?;
     }
-    0
+    Ok(())
 }
 
 // How many bytes the records of the steps have.
+#[tactic(auto, using(crate::proofs::Laws::no_records, crate::proofs::Laws::next_length, crate::proofs::Laws::records_high, script::proofs::Records::record_length))]
 pub fn records_length(l: &[u32]) -> usize
     ensures { result ≡ length (records_of (steps_in l.now)) }
 {
@@ -57,17 +58,12 @@ fn fits(size: usize, room: usize) -> bool
 }
 
 // The first refusal in the writer's order: of the configuration, of the steps, of the length.
-#[tactic(auto, unfolding(script::specs::Writing::write_refusal, rules::specs::Conditions::unless))]
-pub fn write_refusal(c: Config, l: &[u32], size: usize, room: usize) -> u32
+#[tactic(auto, using(script::proofs::Laws::and_is, script::proofs::Round::script_length), unfolding(script::specs::Writing::write_refusal, rules::specs::Conditions::unless))]
+pub fn write_refusal(c: Config, l: &[u32], size: usize, room: usize) -> Result<(), Refusal>
     requires { size ≡ first_record + length (records_of (steps_in l.now)) }
-    ensures { result ≡ write_refusal c (steps_in l.now) room }
+    ensures { refusal_of result ≡ write_refusal c (steps_in l.now) room }
 {
-    if !config_in_range(c) {
-        return 2;
-    }
-    let n = steps_refusal(l);
-    if n != 0 {
-        return n;
-    }
-    if fits(size, room) { 0 } else { 1 }
+    check(config_in_range(c), Refusal::OutOfRange)?;
+    steps_refusal(l)?;
+    check(fits(size, room), Refusal::NoScript)
 }

@@ -6,7 +6,7 @@ use lib.Dec.{eqb}
 use Rattle.types.specs.declared.Message.{Message}
 use Rattle.types.specs.declared.Facade.{Facade}
 use Rattle.types.specs.declared.Step.{Step}
-use Rattle.types.specs.declared.Answer.{Answer}
+use Rattle.rules.specs.Answers.{Answer}
 use Rattle.types.specs.declared.Outcome.{Outcome}
 use Rattle.types.specs.declared.Outcome.TheVariants.{Done, Unmet, Dead}
 use Rattle.types.specs.Numbers.{outcome_number}

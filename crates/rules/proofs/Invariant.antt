@@ -11,7 +11,7 @@ use Rattle.types.specs.declared.State.TheVariants.{Idle, Holding}
 use Rattle.types.specs.declared.Message.{Message}
 use Rattle.types.specs.declared.Facade.{Facade}
 use Rattle.types.specs.declared.Step.{Step}
-use Rattle.types.specs.declared.Answer.{Answer}
+use Rattle.rules.specs.Answers.{Answer}
 use Rattle.rules.specs.Parts.{no_write, no_client, server_at, state_at, message_at, client_party, leads_at, lent_at, potlease_at, write_at}
 use Rattle.rules.specs.Ranges.{config_in_range, state_in_range, in_range, is_server}
 use Rattle.rules.specs.Order.{rank}

@@ -17,7 +17,7 @@ use Rattle.types.specs.declared.Message.{Message}
 use Rattle.types.specs.declared.Facade.{Facade}
 use Rattle.rules.specs.Conditions.{is_within, all}
 use Rattle.rules.specs.Parts.{no_server, parties, server_at, state_at, message_at, offset_at, notice_at}
-use Rattle.types.specs.declared.Answer.{Answer}
+use Rattle.rules.specs.Answers.{Answer}
 use Rattle.std.specs.Prelude.{Option}
 use Rattle.types.specs.declared.Config.{Config}
 use Rattle.rules.specs.Messages.{without_if}

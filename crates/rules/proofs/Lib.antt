@@ -12,6 +12,7 @@ pub mod Delivery
 pub mod Ranges
 pub mod Invariant
 pub mod Safety
+pub mod Sizes
 pub mod Refusals
 pub mod Counts
 pub mod Actions

@@ -6,6 +6,9 @@ use native.Mathlib.Omega.{arith}
 use borrow.Author.Tests.{ne_eqb}
 use lib.Dec.{T, eqb}
 use Rattle.types.specs.declared.Facade.{Facade}
+use Rattle.types.specs.declared.Refusal.{Refusal}
+use Rattle.types.specs.declared.Refusal.TheVariants.{NoScript, OutOfRange, NoRecord, UnknownKind, FieldOutOfRange, DoesNotExist, WrongState, NoTimeLeft, ClockOff, OutOfTouch, NotCredible, NoInteractionLeft, Full}
+use Rattle.types.specs.Numbers.{refusal_number}
 use Rattle.rules.specs.Conditions.{unless}
 use Rattle.rules.specs.Views.{View, whole}
 use Rattle.rules.specs.Ranges.{in_range}
@@ -55,3 +58,19 @@ module _ (f : Facade) (x : Action) where
     pub unless_full_lem : broken (whole f) x 0 ≡ 0 → unless_refused f (full (effect f x).facade) (effect f x) ≡ answer_to f x
     unfolding answer_to refusal unless
     unless_full_lem e = rw (true_of (in_range f) t, broken_over (whole f) x (full (effect f x).facade), e)
+
+-- the number of a refusal is not 0
+pub is_some_refusal : (x : Refusal) → refusal_number x ≡ 0 → ⊥
+is_some_refusal NoScript e = omega (arith, e)
+is_some_refusal OutOfRange e = omega (arith, e)
+is_some_refusal NoRecord e = omega (arith, e)
+is_some_refusal UnknownKind e = omega (arith, e)
+is_some_refusal FieldOutOfRange e = omega (arith, e)
+is_some_refusal DoesNotExist e = omega (arith, e)
+is_some_refusal WrongState e = omega (arith, e)
+is_some_refusal NoTimeLeft e = omega (arith, e)
+is_some_refusal ClockOff e = omega (arith, e)
+is_some_refusal OutOfTouch e = omega (arith, e)
+is_some_refusal NotCredible e = omega (arith, e)
+is_some_refusal NoInteractionLeft e = omega (arith, e)
+is_some_refusal Full e = omega (arith, e)

@@ -10,7 +10,7 @@ use Rattle.types.specs.declared.Body.TheVariants.{Empty, Discover, Offer, Reques
 use Rattle.types.specs.declared.Message.{Message}
 use Rattle.types.specs.declared.Facade.{Facade}
 use Rattle.types.specs.declared.Step.{Step}
-use Rattle.types.specs.declared.Answer.{Answer}
+use Rattle.rules.specs.Answers.{Answer}
 use Rattle.rules.specs.Parts.{taken, server_at, message, no_message, in_state, with_life, with_leading, binding_at, with_binding, with_reservation, with_lease, with_server, with_client, with_time, with_next, with_notices, with_messages}
 use Rattle.rules.specs.Server.{opened, closed}
 use Rattle.rules.specs.Steps.{fresh}

@@ -15,7 +15,7 @@ use Rattle.types.specs.declared.Body.TheVariants.{Empty, Discover, Offer, Reques
 use Rattle.types.specs.declared.Message.{Message}
 use Rattle.types.specs.declared.Facade.{Facade}
 use Rattle.types.specs.declared.Step.{Step}
-use Rattle.types.specs.declared.Answer.{Answer}
+use Rattle.rules.specs.Answers.{Answer}
 use Rattle.rules.specs.Parts.{taken, open_write, message, no_server}
 use Rattle.rules.specs.Examples.{answered, pass, fail, return, notice, discover, request, renew, deliver, lose, cleanup, config_of}
 use Rattle.rules.specs.Edges.{◌▷◌, minus}

@@ -11,7 +11,7 @@ use Rattle.types.specs.declared.Body.TheVariants.{Empty, Discover, Offer, Reques
 use Rattle.types.specs.declared.Message.{Message}
 use Rattle.types.specs.declared.Facade.{Facade}
 use Rattle.types.specs.declared.Step.{Step}
-use Rattle.types.specs.declared.Answer.{Answer}
+use Rattle.rules.specs.Answers.{Answer}
 use Rattle.rules.specs.Conditions.{◌and◌, ◌or◌, is_within, unless, all, lowest, filled}
 use Rattle.rules.specs.Clock.{as_signed}
 use Rattle.rules.specs.Parts.{notice_at, believes, taken, server_at, state_at, leads_at, reserved_at, lent_at, potlease_at, message, in_state, no_message, with_life, with_server, with_time}

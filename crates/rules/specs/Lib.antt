@@ -4,6 +4,7 @@ pub mod Clock
 pub mod Parts
 pub mod Ranges
 pub mod Views
+pub mod Answers
 pub mod Order
 pub mod Messages
 pub mod Server

@@ -16,15 +16,14 @@ use Rattle.types.specs.declared.ClientEvent.{ClientEvent}
 use Rattle.types.specs.declared.ClientEvent.TheVariants.{Discovers, Requests, Renews, Hears}
 use Rattle.types.specs.declared.Deed.{Deed}
 use Rattle.types.specs.declared.Deed.TheVariants.{Rests, Passes, Serves, Asks}
-use Rattle.types.specs.declared.Answer.{Answer}
-use Rattle.types.specs.declared.World.{World}
+use Rattle.rules.specs.Answers.{Answer}
 use Rattle.types.specs.declared.Outcome.TheVariants.{Done}
 use Rattle.types.specs.declared.Reaction.{Reaction}
 use Rattle.types.specs.Numbers.{outcome_number}
 use Rattle.rules.specs.Conditions.{◌and◌, ◌or◌, is_within, unless, all, counted, filled}
 use Rattle.rules.specs.Clock.{not_negative, as_signed}
-use Rattle.rules.specs.Parts.{server_at, state_at, message_at, offset_of, notice_in, clock_of, clock, client_party, parties, in_state, no_client, no_message, with_life, with_server, with_notices, with_client, with_clients, with_time, with_next}
-use Rattle.rules.specs.Views.{world_of, time_in, View, whole}
+use Rattle.rules.specs.Parts.{server_at, state_at, message_at, offset_of, offset_at, notice_in, clock_of, clock, client_party, parties, in_state, no_client, no_message, with_life, with_server, with_notices, with_client, with_clients, with_time, with_next}
+use Rattle.rules.specs.Views.{View, whole}
 use Rattle.rules.specs.Ranges.{config_in_range, in_range, end_in_range, is_server, last_time, last_interaction, most_waiting}
 use Rattle.rules.specs.Messages.{nothing, answer, send_all, without_if}
 use Rattle.rules.specs.Server.{noticed, cleared_server, after_return, cleaned, server_receives}
@@ -214,11 +213,8 @@ abbrev pub refused : Facade → ℕ → Answer
 refused f n = record { refusal = n; outcome = 0; facade = f }
 
 -- Step 1. "true time goes up by d .. and every clock by d, but that party's by d+e .."
-abbrev pub moved_in : World → ℕ → ℕ → ℤ → World
-moved_in w d p e = time_in w (w.time + d) (set w.offsets p (offset_of w.offsets p +ℤ e))
-
 abbrev pub moved : Facade → ℕ → ℕ → ℤ → Facade
-moved f d p e = with_time f (moved_in (world_of f) d p e).time (moved_in (world_of f) d p e).offsets
+moved f d p e = with_time f (f.time + d) (set f.offsets p (offset_at f p +ℤ e))
 
 -- "A client holding an end not above its clock becomes idle." True time is t, the offsets are os and the clients ys.
 unfoldable pub lapsed_at : Config → ℕ → List ℤ → List Client → ℕ → Client

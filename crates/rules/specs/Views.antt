@@ -1,12 +1,19 @@
--- What refusals 6 to 12 look at: of a whole facade, or of the parts of one that are at hand.
-use Rattle.std.specs.Prelude.{Bool, false, List, ℕ, ℤ, get_or}
+-- What refusals 6 to 12 look at.
+use Rattle.std.specs.Prelude.{Bool, List, ℕ, ℤ}
 use Rattle.types.specs.declared.State.{State}
 use Rattle.types.specs.declared.Facade.{Facade}
-use Rattle.types.specs.declared.World.{World}
-use Rattle.types.specs.declared.Lives.{Lives}
+use Rattle.types.specs.declared.Config.{Config}
 use Rattle.rules.specs.Parts.{server_at, state_at}
 
 -- the world: a facade but for its servers, its clients and its messages
+pub record World : Type 0 where
+  pub config : Config
+  pub time : ℕ
+  pub next : ℕ
+  pub offsets : List ℤ
+  pub notices : List ℕ
+  pub waiting : ℕ
+
 abbrev pub world_of : Facade → World
 world_of f = record {
   config = f.config;
@@ -15,17 +22,6 @@ world_of f = record {
   offsets = f.offsets;
   notices = f.notices;
   waiting = f.waiting;
-}
-
--- a world with another true time and other offsets
-abbrev pub time_in : World → ℕ → List ℤ → World
-time_in w t os = record {
-  config = w.config;
-  time = t;
-  next = w.next;
-  offsets = os;
-  notices = w.notices;
-  waiting = w.waiting;
 }
 
 -- the world, of each server whether it is alive and since when, and a client's state by its number
@@ -42,13 +38,4 @@ whole f = record {
   alive = λ j. (server_at f j).alive;
   changed = λ j. (server_at f j).changed;
   state = λ i. state_at f i;
-}
-
--- of the parts at hand: x is the state of the client that the step names
-abbrev pub at_hand : World → Lives → State → View
-at_hand w l x = record {
-  world = w;
-  alive = λ j. get_or l.alive j false;
-  changed = λ j. get_or l.changed j 0;
-  state = λ i. x;
 }

@@ -10,10 +10,8 @@ use Rattle.types.specs.declared.Step.{Step}
 use Rattle.rules.specs.Steps.{unknown, action_of}
 use Rattle.rules.proofs.Laws.{cond_case}
 use Rattle.rules.proofs.Actions.{action_unknown}
-use Rattle.script.specs.declared.Decoded.{Decoded}
-use Rattle.script.specs.declared.Record.{Record}
 use Rattle.script.specs.Layout.{field_count, step_of, fields_of}
-use Rattle.script.specs.Reading.{step_in, is_framed, decode, part, is_whole, record_at, steps_from, steps_of}
+use Rattle.script.specs.Reading.{Decoded, Found, step_in, is_framed, decode, part, is_whole, record_at, steps_from, steps_of}
 use Rattle.script.specs.Writing.{canonical}
 
 unknown_beyond : (s : Step) → 10 < s.kind → action_of s ≡ unknown
@@ -65,7 +63,7 @@ canonical_decoded r = cond_case (λ (d : Decoded). canonical d.step ≡ d.step) 
 canonical_at : (s : List ℕ) (p : ℕ) → canonical (record_at s p).step ≡ (record_at s p).step
 unfolding record_at canonical fields_of field_count action_of
 canonical_at s p =
-    cond_case (λ (d : Record). canonical d.step ≡ d.step) (is_whole s p) _ _ (λ t. canonical_decoded (part s p)) (λ t. refl)
+    cond_case (λ (d : Found). canonical d.step ≡ d.step) (is_whole s p) _ _ (λ t. canonical_decoded (part s p)) (λ t. refl)
 
 canonical_from : (n : ℕ) (s : List ℕ) (p : ℕ) → map canonical (steps_from n s p) ≡ steps_from n s p
 unfolding steps_from

@@ -1,5 +1,4 @@
 pub mod Laws
-pub mod Walk
 pub mod Tests
 pub mod Fours
 pub mod Canonical
@@ -7,3 +6,5 @@ pub mod Records
 pub mod Rows
 pub mod Round
 pub mod Refusals
+pub mod Results
+pub mod Walk

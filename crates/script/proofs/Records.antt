@@ -16,10 +16,8 @@ use Rattle.rules.specs.Steps.{action_of, is_known, malformed}
 use Rattle.rules.proofs.Laws.{and_l, and_r, or_elim, unless_ok}
 use Rattle.wire.specs.Numbers.{bytes_of}
 use Rattle.wire.proofs.Numbers.{number_front}
-use Rattle.script.specs.declared.Decoded.{Decoded}
-use Rattle.script.specs.declared.Record.{Record}
 use Rattle.script.specs.Layout.{step_of, fields_of, length_of, step_refusal, record_of}
-use Rattle.script.specs.Reading.{field_in, step_in, is_framed, decode, part, is_whole, record_at}
+use Rattle.script.specs.Reading.{Decoded, Found, field_in, step_in, is_framed, decode, part, is_whole, record_at}
 use Rattle.script.specs.Writing.{canonical}
 use Rattle.script.proofs.Tests.{test_passed}
 use Rattle.script.proofs.Canonical.{few_fields, action_canonical}
@@ -167,7 +165,7 @@ module _ (r : List ℕ) (h : Bytes r) (ok : (decode r).refusal ≡ 0) where
       rw framed.1 (record_written r h l.0 l.1, in_range_lem)
 
 -- what is read and accepted at a place: it is written as the bytes from there to the next place
-pub record Accepted (s : List ℕ) (p : ℕ) (x : Record) : Type 0 where
+pub record Accepted (s : List ℕ) (p : ℕ) (x : Found) : Type 0 where
   pub in_range_lem : step_refusal x.step ≡ 0
   pub low : p < x.next
   pub bytes : record_of x.step ++ drop x.next s ≡ drop p s
@@ -175,7 +173,7 @@ pub record Accepted (s : List ℕ) (p : ℕ) (x : Record) : Type 0 where
 module _ (s : List ℕ) (p : ℕ) (h : Bytes s) (ok : (record_at s p).refusal ≡ 0) where
   whole : T (is_whole s p) × (record_at s p ≡ record { refusal = (decode (part s p)).refusal; step = (decode (part s p)).step; next = p + 1 + get_or s p 0 })
   unfolding record_at
-  whole = test_passed (λ (x : Record). x.refusal) (is_whole s p) _ _ (omega arith) ok
+  whole = test_passed (λ (x : Found). x.refusal) (is_whole s p) _ _ (omega arith) ok
 
   inside : p + get_or s p 0 < length s
   inside = ltb→lt (p + get_or s p 0) (length s) (and_r _ _ whole.0)

@@ -9,17 +9,15 @@ use Rattle.types.specs.declared.Deed.{Deed}
 use Rattle.types.specs.declared.Deed.TheVariants.{Rests, Passes, Serves, Asks}
 use Rattle.types.specs.declared.Facade.{Facade}
 use Rattle.types.specs.declared.Step.{Step}
-use Rattle.types.specs.declared.Answer.{Answer}
+use Rattle.rules.specs.Answers.{Answer}
 use Rattle.rules.specs.Conditions.{unless}
 use Rattle.rules.specs.Ranges.{in_range}
 use Rattle.rules.specs.Views.{whole}
 use Rattle.rules.specs.Steps.{Action, action_of, is_known, fields_in_range, exists, state_allows, of_pass, time_left, clock_allows, in_touch, of_notice, is_credible, interaction_left, malformed, barred, broken, enacted, effect, has_room, refused, refusal, answer_to, step}
 use Rattle.rules.proofs.Laws.{true_of, cond_case, unless_ok}
 use Rattle.rules.proofs.Refusals.{first_malformed, refused_first}
-use Rattle.script.specs.declared.Decoded.{Decoded}
-use Rattle.script.specs.declared.Record.{Record}
 use Rattle.script.specs.Layout.{step_refusal}
-use Rattle.script.specs.Reading.{is_framed, decode, part, is_whole, record_at}
+use Rattle.script.specs.Reading.{Decoded, Found, is_framed, decode, part, is_whole, record_at}
 
 -- a refusal that is neither 4 nor 5
 abbrev pub Other : ℕ → Type 0
@@ -82,5 +80,5 @@ decoded_refusal r =
 pub record_refusal : (s : List ℕ) (p : ℕ) → ((record_at s p).refusal ≡ 3 → ⊥) → (record_at s p).refusal ≡ step_refusal (record_at s p).step
 unfolding record_at
 record_refusal s p =
-    cond_case (λ (r : Record). (r.refusal ≡ 3 → ⊥) → r.refusal ≡ step_refusal r.step) (is_whole s p) _ _
+    cond_case (λ (r : Found). (r.refusal ≡ 3 → ⊥) → r.refusal ≡ step_refusal r.step) (is_whole s p) _ _
     (λ t. decoded_refusal (part s p)) (λ t n. absurd (n refl))

@@ -15,9 +15,8 @@ use Rattle.rules.specs.Ranges.{config_in_range}
 use Rattle.rules.proofs.Laws.{true_of, and_l, and_r, within_low, within_high, unless_ok, cond_case}
 use Rattle.wire.specs.Numbers.{over}
 use Rattle.wire.proofs.Numbers.{number_front}
-use Rattle.script.specs.declared.Header.{Header}
 use Rattle.script.specs.Layout.{step_refusal, header_of, record_of, records_of, script_of}
-use Rattle.script.specs.Reading.{longest, config_read, is_script, header_in, record_at, or_else, records_refusal, steps_from, verdict, steps_of}
+use Rattle.script.specs.Reading.{Header, longest, config_read, is_script, header_in, record_at, or_else, records_refusal, steps_from, verdict, steps_of}
 use Rattle.script.specs.Writing.{row_at, rows, steps_in, steps_refusal, write_refusal, written, script_into, flat, canonical}
 use Rattle.script.proofs.Tests.{test_passed, none_met}
 use Rattle.script.proofs.Walk.{none_from_the_end}

@@ -5,12 +5,18 @@ use mathlib.Core.List.{List}
 use Prim.Native.Nat.{ℕ, zero, suc, ◌+◌, ◌-◌, ◌≤◌, ◌<◌}
 use native.Mathlib.Omega.{arith}
 use native.Mathlib.Nat.{add-sub_cancel_left}
+use native.Mathlib.Decide.{dec_lt}
 use lib.Dec.{T, eqb, leb, ltb→lt, eqb→eq}
 use lib.ListN.{length, get_or, take, drop}
-use borrow.Author.Tests.{le-leb, lt-leb, eq-eqb, ne_eqb}
+use borrow.Author.Tests.{le-leb, lt-leb, ne_eqb}
+use Rattle.std.specs.Prelude.{Ok, Err}
+use Rattle.types.specs.declared.Refusal.{Refusal}
+use Rattle.types.specs.Numbers.{refusal_number}
 use Rattle.rules.proofs.Laws.{and_r, cond_case}
-use Rattle.script.specs.Reading.{part, is_whole, record_at, or_else, records_refusal}
 use Rattle.script.specs.declared.Record.{Record}
+use Rattle.script.specs.Layout.{step_refusal}
+use Rattle.script.specs.Reading.{Found, part, is_whole, record_at, result_of, or_else, records_refusal}
+use Rattle.script.proofs.Results.{none_at, one_at, outside}
 
 -- the n bytes behind the length byte at p, where that byte is n
 pub part_from_to : (s : List ℕ) (p n : ℕ) → n ≡ get_or s p 0 → take (p + 1 + n - (p + 1)) (drop (p + 1) s) ≡ part s p
@@ -19,17 +25,25 @@ part_from_to s p n e = rw (add-sub_cancel_left (p + 1) n, e)
 -- behind a record, whole or not, is a later place
 pub later : (s : List ℕ) (p : ℕ) → p < length s → p < (record_at s p).next
 unfolding record_at
-later s p h = cond_case (λ (r : Record). p < r.next) (is_whole s p) _ _ (λ t. omega arith) (λ t. h)
+later s p h = cond_case (λ (r : Found). p < r.next) (is_whole s p) _ _ (λ t. omega arith) (λ t. h)
 
--- so less is left behind it, where r is the record
-pub leaves_less : (s : List ℕ) (p : ℕ) (r : Record) → p < length s → r ≡ record_at s p → length s - r.next < length s - p
-leaves_less s p r h e = rw e (omega (arith, later s p h))
+-- a record that is found begins within the script
+found_within : (s : List ℕ) (p : ℕ) {r : Record} → Ok r ≡ result_of (record_at s p) → Dec (p + get_or s p 0 < length s) → p < length s
+found_within s p e (yes h) = omega arith
+found_within s p e (no h) = let o = outside s p (omega arith) in cc
+
+-- so less is left behind it
+pub leaves_less : (s : List ℕ) (p : ℕ) {r : Record} → Ok r ≡ result_of (record_at s p) → length s - r.next < length s - p
+leaves_less s p {r} e =
+    let n : (record_at s p).next ≡ r.next = ap (λ (x : Found). x.next) (one_at s p e) in
+    let h = found_within s p e (dec_lt (p + get_or s p 0) (length s)) in
+    omega (arith, later s p h)
 
 -- a record without a refusal moves the place on, within the script
 pub moves_on : (s : List ℕ) (p : ℕ) → (record_at s p).refusal ≡ 0 → (p < (record_at s p).next) × ((record_at s p).next ≤ length s)
 unfolding record_at
 moves_on s p =
-    cond_case (λ (r : Record). r.refusal ≡ 0 → (p < r.next) × (r.next ≤ length s)) (is_whole s p) _ _
+    cond_case (λ (r : Found). r.refusal ≡ 0 → (p < r.next) × (r.next ≤ length s)) (is_whole s p) _ _
     (λ t e. (omega arith, omega (arith, ltb→lt (p + get_or s p 0) (length s) (and_r _ _ t))))
     (λ t e. absurd (omega arith))
 
@@ -64,12 +78,17 @@ one_then_the_rest (suc n) s p h g =
     rw (lt-leb (length s) p g)
     (or_else_same _ _ _ (λ z. let on = moves_on s p z in enough_records n (suc n) s (record_at s p).next (omega arith) (omega arith)))
 
--- the walk stops at a refused record r
-pub stops_at : (s : List ℕ) (p : ℕ) (r : Record) → p < length s → r ≡ record_at s p → (r.refusal ≡ 0 → ⊥)
-    → records_refusal (length s) s p ≡ r.refusal
-stops_at s p r h e f = one_then_the_rest (length s) s p (omega arith) h ∙ rw (← e, ne_eqb r.refusal 0 f)
+-- The walk stops where no record is found, and at one that is refused; else it goes on behind it.
+module _ (s : List ℕ) (p : ℕ) (h : p < length s) where
+  here : records_refusal (length s) s p ≡ or_else (record_at s p).refusal (records_refusal (length s) s (record_at s p).next)
+  here = one_then_the_rest (length s) s p (omega arith) h
 
--- and goes on behind one that is not
-pub goes_past : (s : List ℕ) (p : ℕ) (r : Record) → p < length s → r ≡ record_at s p → r.refusal ≡ 0
-    → records_refusal (length s) s p ≡ records_refusal (length s) s r.next
-goes_past s p r h e f = one_then_the_rest (length s) s p (omega arith) h ∙ rw (← e, eq-eqb r.refusal 0 f)
+  pub stops : {n : Refusal} → Err n ≡ result_of (record_at s p) → records_refusal (length s) s p ≡ refusal_number n
+  stops e = let q = none_at s p e in here ∙ rw (q.1, q.0)
+
+  module _ {r : Record} (e : Ok r ≡ result_of (record_at s p)) where
+    pub stops_at : (step_refusal r.step ≡ 0 → ⊥) → records_refusal (length s) s p ≡ step_refusal r.step
+    stops_at f = here ∙ rw (one_at s p e, ne_eqb (step_refusal r.step) 0 f)
+
+    pub goes_past : step_refusal r.step ≡ 0 → records_refusal (length s) s p ≡ records_refusal (length s) s r.next
+    goes_past f = here ∙ rw (one_at s p e, f)

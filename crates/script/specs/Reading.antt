@@ -1,14 +1,14 @@
 -- Reading a script. "Reading goes record by record, and the first record to meet one gives the number."
-use Rattle.std.specs.Prelude.{Bool, not, cond, List, [], ◌∷◌, ℕ, zero, suc, ◌+◌, ◌*◌, leb, ltb, eqb, length, get_or, take, drop}
+use Rattle.std.specs.Prelude.{Bool, not, cond, List, [], ◌∷◌, ℕ, zero, suc, ◌+◌, ◌*◌, leb, ltb, eqb, length, get_or, take, drop, Result, Ok, Err}
 use Rattle.types.specs.declared.Config.{Config}
+use Rattle.types.specs.declared.Refusal.{Refusal}
+use Rattle.types.specs.declared.Refusal.TheVariants.{NoRecord}
 use Rattle.types.specs.declared.Step.{Step}
 use Rattle.rules.specs.Conditions.{◌and◌, ◌or◌, is_within, unless}
 use Rattle.rules.specs.Ranges.{config_in_range}
 use Rattle.rules.specs.Steps.{action_of, is_known}
 use Rattle.wire.specs.Numbers.{number_at}
 use Rattle.script.specs.Layout.{step_of, fields_of, length_of, step_refusal, first_record}
-use Rattle.script.specs.declared.Header.{Header}
-use Rattle.script.specs.declared.Decoded.{Decoded}
 use Rattle.script.specs.declared.Record.{Record}
 
 -- the length of the longest script
@@ -35,7 +35,11 @@ no_config = record { servers = 0; clients = 0; addresses = 0; skew = 0; detectio
 abbrev pub is_script : List ℕ → Bool
 is_script s = is_within first_record longest (length s) and eqb (get_or s 0 0) 1
 
--- the header: refusals 1 and 2
+-- what the header says: refusal 0, 1 or 2, and the configuration
+pub record Header : Type 0 where
+  pub refusal : ℕ
+  pub config : Config
+
 unfoldable pub header_in : List ℕ → Header
 header_in s =
     cond (is_script s) (record { refusal = unless (config_in_range (config_read s)) 2 0; config = config_read s })
@@ -57,7 +61,11 @@ step_in r = let k = get_or r 0 0 in step_of k (field_in r (fields_of k) 0) (fiel
 unfoldable pub is_framed : List ℕ → Bool
 is_framed r = ltb 0 (length r) and (not (is_known (action_of (step_in r))) or eqb (length r) (length_of (get_or r 0 0)))
 
--- what a record says: refusals 3, 4 and 5, and its step
+-- what a record says: refusal 0, 3, 4 or 5, and its step
+pub record Decoded : Type 0 where
+  pub refusal : ℕ
+  pub step : Step
+
 unfoldable pub decode : List ℕ → Decoded
 decode r = cond (is_framed r) (record { refusal = step_refusal (step_in r); step = step_in r }) (record { refusal = 3; step = no_step })
 
@@ -69,12 +77,22 @@ part s p = take (get_or s p 0) (drop (p + 1) s)
 abbrev pub is_whole : List ℕ → ℕ → Bool
 is_whole s p = ltb p (length s) and ltb (p + get_or s p 0) (length s)
 
--- the record at place p, and the place behind it; behind one that is not whole is the end
-unfoldable pub record_at : List ℕ → ℕ → Record
+-- what is found at a place: the same, and the place behind the record
+pub record Found : Type 0 where
+  pub refusal : ℕ
+  pub step : Step
+  pub next : ℕ
+
+-- the record at place p; behind one that is not whole is the end
+unfoldable pub record_at : List ℕ → ℕ → Found
 record_at s p =
     cond (is_whole s p)
     (record { refusal = (decode (part s p)).refusal; step = (decode (part s p)).step; next = p + 1 + get_or s p 0 })
     (record { refusal = 3; step = no_step; next = length s })
+
+-- as a result: refusal 3 stands in place of a record, and 4 and 5 are those of its step
+unfoldable pub result_of : Found → Result Record Refusal
+result_of x = cond (eqb x.refusal 3) (Err NoRecord) (Ok (record { step = x.step; next = x.next }))
 
 -- n, or m where n is no refusal
 abbrev pub or_else : ℕ → ℕ → ℕ

@@ -1,13 +1,14 @@
 -- Writing a script. "The writer puts the same layout into a lent buffer."
-use Rattle.std.specs.Prelude.{cond, List, [], ◌∷◌, ◌++◌, ℕ, zero, suc, ◌+◌, ◌*◌, ◌/◌, leb, eqb, ltb, length, get_or}
+use Rattle.std.specs.Prelude.{cond, List, [], ◌∷◌, ◌++◌, ℕ, zero, suc, ◌+◌, ◌*◌, ◌/◌, leb, eqb, ltb, length, get_or, Result, Ok, Err}
 use Rattle.types.specs.declared.Config.{Config}
+use Rattle.types.specs.declared.Refusal.{Refusal}
 use Rattle.types.specs.declared.Step.{Step}
+use Rattle.types.specs.Numbers.{refusal_number}
 use Rattle.rules.specs.Conditions.{◌and◌, unless}
 use Rattle.rules.specs.Ranges.{config_in_range}
 use Rattle.wire.specs.Numbers.{over}
 use Rattle.script.specs.Layout.{step_of, fields_of, step_refusal, script_of}
 use Rattle.script.specs.Reading.{longest, or_else}
-use Rattle.script.specs.declared.Written.{Written}
 
 -- Steps are handed over as rows of four numbers: a kind and three fields. Row n of a list of numbers:
 abbrev pub row_at : List ℕ → ℕ → Step
@@ -41,9 +42,18 @@ write_refusal c ss n =
     (unless (leb (length (script_of c ss)) longest and leb (length (script_of c ss)) n) 1
     0))
 
--- the answer: the refusal, and the length of the script, 0 where it is refused
+-- the writer's answer: the refusal, and the length of the script, 0 where it is refused
+pub record Written : Type 0 where
+  pub refusal : ℕ
+  pub length : ℕ
+
 unfoldable pub written : Config → List Step → ℕ → Written
 written c ss n = record { refusal = write_refusal c ss n; length = cond (eqb (write_refusal c ss n) 0) (length (script_of c ss)) 0 }
+
+-- that of a result
+abbrev pub written_as : Result ℕ Refusal → Written
+written_as (Ok n) = record { refusal = 0; length = n }
+written_as (Err n) = record { refusal = refusal_number n; length = 0 }
 
 -- "A refusal leaves the buffer unchanged; otherwise bytes past the script are unchanged."
 unfoldable pub script_into : Config → List Step → List ℕ → List ℕ

@@ -1,13 +1,15 @@
 // A script read: its header, its records one by one, and the verdict on the whole.
 #![tactic(auto)]
 
-ghost use Rattle.std.specs.Prelude.{◌≡◌, ◌+◌, ◌*◌, ◌≤◌, length, get_or};
+ghost use Rattle.std.specs.Prelude.{◌≡◌, ◌+◌, ◌*◌, ◌≤◌, cond, length, get_or, IfOk};
+ghost use Rattle.types.specs.Numbers.{refusal_of};
 ghost use Rattle.script.specs.Layout.{fields_of, length_of, step_refusal, first_record};
-ghost use Rattle.script.specs.Reading.{config_read, no_config, is_script, header_in, no_step, field_in, step_in, is_framed, decode as decode', record_at, records_refusal, verdict as verdict'};
+ghost use Rattle.script.specs.Reading.{config_read, is_script, header_in, field_in, step_in, is_framed, record_at, result_of, records_refusal, verdict as verdict'};
 
+use arith::check;
 use ranges::config_in_range;
 use steps::{action_of, malformed};
-use types::{Config, Step};
+use types::{Config, Refusal, Step};
 use wire::{number_at, wide};
 
 // The place of the first record, behind the version byte and the seven numbers.
@@ -16,36 +18,15 @@ pub const FIRST_RECORD: usize = 29;
 // The length of the longest script.
 pub const LONGEST: usize = 65536;
 
-// What the header says: refusal 0, 1 or 2, and the configuration, all zeros with refusal 1.
-#[derive(Clone, Copy)]
-pub struct Header {
-    pub refusal: u32,
-    pub config: Config,
-}
-
-// What a record says: refusal 0, 3, 4 or 5, and the step, all zeros with refusal 3.
-#[derive(Clone, Copy)]
-pub struct Decoded {
-    pub refusal: u32,
-    pub step: Step,
-}
-
 // A record of a script, and the place behind it.
 #[derive(Clone, Copy)]
 pub struct Record {
-    pub refusal: u32,
     pub step: Step,
     pub next: usize,
 }
 
-// What the writer answers: a refusal, and how many bytes it wrote.
-#[derive(Clone, Copy)]
-pub struct Written {
-    pub refusal: u32,
-    pub length: usize,
-}
-
 // The seven numbers.
+#[tactic(auto, unfolding(crate::specs::Reading::config_read))]
 fn config_read(s: &[u8]) -> Config
     requires { first_record ≤ length s.now }
     ensures { result ≡ config_read s.now }
@@ -61,20 +42,6 @@ fn config_read(s: &[u8]) -> Config
     }
 }
 
-fn no_config() -> Config
-    ensures { result ≡ no_config }
-{
-    Config {
-        servers: 0,
-        clients: 0,
-        addresses: 0,
-        skew: 0,
-        detection: 0,
-        mclt: 0,
-        retention: 0,
-    }
-}
-
 // Refusal 1: whether s has the length and the version of a script.
 #[tactic(auto, unfolding(rules::specs::Conditions::is_within), using(crate::proofs::Laws::and_is))]
 fn is_script(s: &[u8]) -> bool
@@ -83,26 +50,31 @@ fn is_script(s: &[u8]) -> bool
     FIRST_RECORD <= s.len() && s.len() <= LONGEST && s[0] == 1
 }
 
-// The header of a script: refusals 1 and 2.
-pub fn header_in(s: &[u8]) -> Header
-    ensures { result ≡ header_in s.now }
+// The seven numbers of a script, in range or not: refusal 1.
+#[tactic(auto, using(crate::proofs::Laws::script_is_long))]
+pub fn config_in(s: &[u8]) -> Result<Config, Refusal>
+    ensures { result ≡ cond (is_script s.now) (Ok (config_read s.now)) (Err Refusal.NoScript) }
 {
     if is_script(s) {
-        let c = config_read(s);
-        let n = if config_in_range(c) { 0 } else { 2 };
-        return Header {
-            refusal: n,
-            config: c,
-        };
-    }
-    let none = no_config();
-    Header {
-        refusal: 1,
-        config: none,
+        Ok(config_read(s))
+    } else {
+        Err(Refusal::NoScript)
     }
 }
 
+// The header of a script: refusals 1 and 2.
+#[tactic(auto, unfolding(crate::specs::Reading::header_in, rules::specs::Conditions::unless))]
+pub fn header_in(s: &[u8]) -> Result<Config, Refusal>
+    ensures refusal { refusal_of result ≡ (header_in s.now).refusal }
+    ensures config { IfOk result (λ c. c ≡ (header_in s.now).config) }
+{
+    let c = config_in(s)?;
+    check(config_in_range(c), Refusal::OutOfRange)?;
+    Ok(c)
+}
+
 // How many fields follow a kind.
+#[tactic(auto, using(crate::proofs::Laws::no_fields), unfolding(crate::specs::Layout::fields_of, crate::specs::Layout::field_count, rules::specs::Steps::action_of))]
 pub fn fields_of(kind: u32) -> u32
     ensures { (result ≡ fields_of kind) × (result ≤ 3) }
 {
@@ -121,9 +93,9 @@ pub fn fields_of(kind: u32) -> u32
     }
 }
 
-// Refusals 4 and 5 of a step, 0 if none.
-pub fn step_refusal(s: Step) -> u32
-    ensures { result ≡ step_refusal s }
+// Refusals 4 and 5 of a step.
+pub fn step_refusal(s: Step) -> Result<(), Refusal>
+    ensures { refusal_of result ≡ step_refusal s }
 {
     malformed(action_of(s))
 }
@@ -141,6 +113,7 @@ fn field_in(r: &[u8], n: u32, i: u32) -> u32
 }
 
 // The kind and the fields of a record.
+#[tactic(auto, unfolding(crate::specs::Reading::step_in))]
 fn step_in(r: &[u8]) -> Step
     requires { length_of (get_or r.now 0 0) ≤ length r.now }
     ensures { result ≡ step_in r.now }
@@ -167,94 +140,57 @@ fn is_framed(r: &[u8]) -> bool
     n == 0 || r.len() == (1 + 4 * n) as usize
 }
 
-fn no_step() -> Step
-    ensures { result ≡ no_step }
-{
-    Step {
-        kind: 0,
-        first: 0,
-        second: 0,
-        third: 0,
-    }
-}
-
-// What a record says.
-pub fn decode(r: &[u8]) -> Decoded
-    ensures { result ≡ decode' r.now }
+// The step that a record says: refusal 3. What the step itself breaks, 4 or 5, is `step_refusal`.
+#[tactic(auto, using(crate::proofs::Laws::framed_is_long))]
+pub fn decode(r: &[u8]) -> Result<Step, Refusal>
+    ensures { result ≡ cond (is_framed r.now) (Ok (step_in r.now)) (Err Refusal.NoRecord) }
 {
     if is_framed(r) {
-        let s = step_in(r);
-        let n = step_refusal(s);
-        return Decoded {
-            refusal: n,
-            step: s,
-        };
-    }
-    let none = no_step();
-    Decoded {
-        refusal: 3,
-        step: none,
+        Ok(step_in(r))
+    } else {
+        Err(Refusal::NoRecord)
     }
 }
 
-// Where no record is whole, in a script of length end: refusal 3, and nothing behind it.
-fn no_record(end: usize) -> Record
-    ensures { result ≡ record { refusal = 3; step = no_step; next = end } }
-{
-    let none = no_step();
-    Record {
-        refusal: 3,
-        step: none,
-        next: end,
-    }
-}
-
-// The record at place p, handed on as that part of the script.
-pub fn record_at(s: &[u8], p: usize) -> Record
-    ensures { result ≡ record_at s.now p }
+// The record at place p, decoded as that part of the script: refusal 3, also where it is not whole, as from the end on.
+#[tactic(auto, using(crate::proofs::Results::outside, crate::proofs::Results::inside, crate::proofs::Walk::part_from_to))]
+pub fn record_at(s: &[u8], p: usize) -> Result<Record, Refusal>
+    ensures { result ≡ result_of (record_at s.now p) }
 {
     let end = s.len();
     if end <= p {
-        return no_record(end);
+        return Err(Refusal::NoRecord);
     }
     let n = wide(s[p]) as usize;
     if end - p <= n {
-        return no_record(end);
+        return Err(Refusal::NoRecord);
     }
     let start = p + 1;
     let next = start + n;
-    let d = decode(&s[start..next]);
-    let step = d.step;
-    Record {
-        refusal: d.refusal,
-        step,
-        next,
-    }
+    let step = decode(&s[start..next])?;
+    Ok(Record { step, next })
 }
 
-// The first refusal among the records from the first record on, 0 if none.
-fn records_refusal(s: &[u8]) -> u32
-    ensures { result ≡ records_refusal (length s.now) s.now first_record }
+// The first refusal among the records from the first record on.
+#[tactic(auto, using(crate::proofs::Walk::leaves_less, crate::proofs::Walk::none_from_the_end, crate::proofs::Walk::stops, crate::proofs::Walk::stops_at, crate::proofs::Walk::goes_past))]
+fn records_refusal(s: &[u8]) -> Result<(), Refusal>
+    ensures { refusal_of result ≡ records_refusal (length s.now) s.now first_record }
 {
     let mut p = FIRST_RECORD;
     // where the next record begins is known when this one is read, so this is no `for`
     while p < s.len() {
-        let r = record_at(s, p);
-        if r.refusal != 0 {
-            return r.refusal;
-        }
+        let r = record_at(s, p)?;
+        step_refusal(r.step)?;
         p = r.next;
     }
-    0
+    Ok(())
 }
 
-// The first refusal that reading the whole script meets, 0 if it is accepted.
-pub fn verdict(s: &[u8]) -> u32
-    ensures { result ≡ verdict' s.now }
+// The first refusal that reading the whole script meets.
+#[tactic(auto, unfolding(crate::specs::Reading::verdict))]
+pub fn verdict(s: &[u8]) -> Result<(), Refusal>
+    ensures { refusal_of result ≡ verdict' s.now }
 {
-    let h = header_in(s);
-    if h.refusal != 0 {
-        return h.refusal;
-    }
+    header_in(s)?;
     records_refusal(s)
 }

@@ -4,10 +4,8 @@
 
 ghost use Rattle.std.specs.Prelude.{◌≡◌, ◌≤◌, ◌<◌, T};
 ghost use Rattle.types.specs.declared.Reservation.{Reservation};
-ghost use Rattle.types.specs.declared.Outcome.TheVariants.{Done};
 ghost use Rattle.rules.specs.Parts.{binding_at as binding_at', with_binding};
 ghost use Rattle.rules.specs.Ranges.{body_in_range, last_reading};
-ghost use Rattle.rules.specs.Messages.{answer, nothing as nothing'};
 ghost use Rattle.rules.specs.Server.{noticed as noticed', cleared_server, after_return, freed_if_old, cleaned as cleaned', is_request, address_of, handled_at, server_receives};
 ghost use Rattle.rules.proofs.Kept.{Configured};
 
@@ -15,20 +13,9 @@ use leading::{may_lead, next_server, raised};
 use lending::{
     drop_reservations, lowest_offerable, on_discover, on_renew, on_request, reservations_by,
 };
-use outbox::nothing;
+use outbox::{done, nothing};
 use types::{Binding, Body, Config, Message, Outcome, Reaction, Reservation, Server};
 use writes::{closed, on_write, on_write_ack};
-
-// What a server is when something is done, with nothing sent.
-pub fn done(s: Server) -> Reaction<Server>
-    ensures { result ≡ answer s Done nothing' }
-{
-    Reaction {
-        after: s,
-        outcome: Outcome::Done,
-        outbox: nothing(),
-    }
-}
 
 // A notice: server `about` is dead (0) or alive (1). For each address it is decided anew whether the server leads it.
 pub fn noticed(c: Config, k: u32, r: u32, s: Server, about: u32, says: u32) -> Reaction<Server>

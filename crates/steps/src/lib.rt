@@ -2,10 +2,11 @@
 #![tactic(auto)]
 
 ghost use Rattle.std.specs.Prelude.{◌≡◌};
+ghost use Rattle.types.specs.Numbers.{refusal_of};
 ghost use Rattle.rules.specs.Steps.{action_of, malformed as malformed'};
 
-use arith::{as_signed, both, is_within, magnitude, unless};
-use types::{Action, LAST_END, Step};
+use arith::{as_signed, check};
+use types::{Action, LAST_END, Refusal, Step};
 
 // The kind number decides the step; fields follow.
 pub fn action_of(s: Step) -> Action
@@ -27,21 +28,27 @@ pub fn action_of(s: Step) -> Action
     }
 }
 
-// Refusals 4 and 5, 0 if none.
-pub fn malformed(x: Action) -> u32
-    ensures { result ≡ malformed' x 0 }
+// Refusals 4 and 5.
+#[tactic(auto, using(rules::proofs::Laws::tests), unfolding(rules::specs::Conditions::is_within, rules::specs::Conditions::unless, rules::specs::Steps::malformed, rules::specs::Steps::is_known, rules::specs::Steps::fields_in_range))]
+pub fn malformed(x: Action) -> Result<(), Refusal>
+    ensures { refusal_of result ≡ malformed' x 0 }
 {
     match x {
-        Action::Pass(d, _, e) => unless(both(is_within(1, 100000, d), magnitude(e) <= 2000), 5, 0),
-        Action::Fail(_) => 0,
-        Action::Return(_) => 0,
-        Action::Notice(_, _, says) => unless(says <= 1, 5, 0),
-        Action::Discover(_) => 0,
-        Action::Request(_, t) => unless(t <= LAST_END, 5, 0),
-        Action::Renew(_, t) => unless(t <= LAST_END, 5, 0),
-        Action::Deliver(_, keep) => unless(keep <= 1, 5, 0),
-        Action::Lose(_) => 0,
-        Action::Cleanup(_) => 0,
-        Action::Unknown => 4,
+        Action::Pass(d, _, e) => check(
+            1 <= d && d <= 100000 && e.unsigned_abs() <= 2000,
+            Refusal::FieldOutOfRange,
+        ),
+        Action::Notice(_, _, flag) | Action::Deliver(_, flag) => {
+            check(flag <= 1, Refusal::FieldOutOfRange)
+        }
+        Action::Request(_, t) | Action::Renew(_, t) => {
+            check(t <= LAST_END, Refusal::FieldOutOfRange)
+        }
+        Action::Fail(_)
+        | Action::Return(_)
+        | Action::Discover(_)
+        | Action::Lose(_)
+        | Action::Cleanup(_) => Ok(()),
+        Action::Unknown => Err(Refusal::UnknownKind),
     }
 }

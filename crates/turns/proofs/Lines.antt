@@ -9,7 +9,7 @@ use lib.ListN.{length, get_or, take, drop, length-append}
 use borrow.Author.Tests.{le-ltb, eq-eqb, ne_eqb}
 use Rattle.types.specs.declared.Facade.{Facade}
 use Rattle.types.specs.declared.Step.{Step}
-use Rattle.types.specs.declared.Answer.{Answer}
+use Rattle.rules.specs.Answers.{Answer}
 use Rattle.rules.specs.Conditions.{◌and◌}
 use Rattle.rules.specs.Ranges.{Sound}
 use Rattle.rules.specs.Steps.{step, held_clients}
@@ -19,7 +19,7 @@ use Rattle.rules.proofs.Ranges.{step_sound}
 use Rattle.rules.proofs.Bounds.{step_refusal_high, step_outcome_high}
 use Rattle.script.specs.Layout.{first_record}
 use Rattle.script.specs.Reading.{longest, is_framed, decode, is_whole, record_at}
-use Rattle.script.specs.declared.Record.{Record}
+use Rattle.script.specs.Reading.{Found}
 use Rattle.report.specs.Lines.{record_line, held_line}
 use Rattle.report.proofs.Laws.{record_line_short, held_line_short}
 use Rattle.turns.specs.declared.Progress.{Progress}
@@ -45,12 +45,12 @@ has_a_kind (suc n) l f = omega arith
 pub moves_two : (s : List ℕ) (p : ℕ) → ((record_at s p).refusal ≡ 3 → ⊥) → (p + 2 ≤ (record_at s p).next) × ((record_at s p).next ≤ length s)
 unfolding record_at
 moves_two s p =
-    cond_case (λ (r : Record). (r.refusal ≡ 3 → ⊥) → (p + 2 ≤ r.next) × (r.next ≤ length s)) (is_whole s p) _ _
+    cond_case (λ (r : Found). (r.refusal ≡ 3 → ⊥) → (p + 2 ≤ r.next) × (r.next ≤ length s)) (is_whole s p) _ _
     (λ t f. (omega (arith, has_a_kind (get_or s p 0) (drop (p + 1) s) f), omega (arith, ltb→lt (p + get_or s p 0) (length s) (and_r _ _ t))))
     (λ t f. absurd (f refl))
 
 -- so does r, where r is that record
-pub moves_past : (s : List ℕ) (p : ℕ) (r : Record) → r ≡ record_at s p → (r.refusal ≡ 3 → ⊥) → (p + 2 ≤ r.next) × (r.next ≤ length s)
+pub moves_past : (s : List ℕ) (p : ℕ) (r : Found) → r ≡ record_at s p → (r.refusal ≡ 3 → ⊥) → (p + 2 ≤ r.next) × (r.next ≤ length s)
 moves_past s p r e t = rw e (moves_two s p (rw (← e) t))
 
 -- where f is in range and k has at most five digits, the line of record k has at most 26 bytes
@@ -105,7 +105,7 @@ module _ (s : List ℕ) (short : length s ≤ longest) where
   lines_few n f p k v h = (lines_high n f p k v h).1
 
 -- One turn, where r is the record at p.
-module _ (n : ℕ) (f : Facade) (s : List ℕ) (p k : ℕ) (r : Record) (e : r ≡ record_at s p) where
+module _ (n : ℕ) (f : Facade) (s : List ℕ) (p k : ℕ) (r : Found) (e : r ≡ record_at s p) where
   -- refusal 3 ends the run
   module _ (t : r.refusal ≡ 3) where
     pub ends_with : lines_from (suc n) f s p k ≡ last_lines (leb (length s) p) k f.time f.waiting (held_clients f)

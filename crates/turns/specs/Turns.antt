@@ -1,8 +1,8 @@
 -- The lines of the records, as the rig prints them: "per record: its number from 1, refusal (0 if none), outcome (0 if
 -- refused), true time, waiting messages. Refusal 3 ends the run after its line. Last comes `held` and how many clients hold."
-use Rattle.std.specs.Prelude.{◌≡◌, Bool, true, false, cond, List, [], ◌++◌, ℕ, zero, suc, ◌+◌, ◌*◌, ◌≤◌, leb, eqb, length}
+use Rattle.std.specs.Prelude.{Bool, true, false, cond, List, [], ◌++◌, ℕ, zero, suc, ◌+◌, ◌*◌, ◌≤◌, leb, eqb, length}
 use Rattle.types.specs.declared.Facade.{Facade}
-use Rattle.types.specs.declared.Answer.{Answer}
+use Rattle.rules.specs.Answers.{Answer}
 use Rattle.rules.specs.Steps.{step, held_clients}
 use Rattle.rules.specs.Ranges.{Sound}
 use Rattle.script.specs.Layout.{first_record}
@@ -44,8 +44,6 @@ progress_from (suc n) f s p k =
 -- more, from the first record on
 pub record UnderWay (s : List ℕ) (r : Progress) : Type 0 where
   pub sound : Sound r.facade
-  pub servers : length r.facade.servers ≡ 4
-  pub clients : length r.facade.clients ≡ 32
   pub counted : first_record + 2 * r.number ≤ r.place + 2
   pub placed : r.place ≤ longest
   pub short : length s ≤ longest

@@ -1,4 +1,4 @@
-// The data of document 01, what a step says and does, what the parties answer, and the parts that a facade is taken apart into.
+// The data of document 01, what a step says and does, and what the parties answer.
 // A comment names the term of the paper where it differs.
 #![tactic(auto)]
 
@@ -24,7 +24,7 @@ pub const AFTER_LAST: u32 = 1000001;
 pub const MOST_WAITING: u32 = 128;
 
 // The configuration: how many there are of each, and the four times.
-#[derive(Clone, Copy)]
+#[derive(Clone, Copy, Default)]
 pub struct Config {
     // S
     pub servers: u32,
@@ -74,7 +74,7 @@ pub struct Server {
     // the servers believed live
     pub believed: [bool; 4],
     // for each address: whether it leads, its reservation, the lent end (acklease),
-    // the record (potlease) and the open write
+    // the record (potlease) and the open write; side by side, and not one array of bindings, since document 01 names that form
     pub leads: [bool; 32],
     pub reserved: [Option<Reservation>; 32],
     pub lent: [u32; 32],
@@ -161,7 +161,7 @@ pub struct Facade {
 }
 
 // A step: the kind number decides it, and its fields follow in the paper's order.
-// A step with fewer fields leaves the others unread.
+// A step with fewer fields leaves the others unread. The kind is a number, and no enum, since document 01 names that form.
 #[derive(Clone, Copy)]
 pub struct Step {
     pub kind: u32,
@@ -170,7 +170,8 @@ pub struct Step {
     pub third: u32,
 }
 
-// What a step says: its kind, with the fields that the kind has. `Unknown` is every other kind.
+// What a step says: its kind, with the fields that the kind has. `Unknown` is every other kind. `says` and `keep` are numbers, as a
+// record has them, since rule 5 judges them; a `bool` further on would ask more of callers, who may hand on any number.
 #[derive(Clone, Copy)]
 pub enum Action {
     // d, party, e
@@ -231,24 +232,8 @@ pub enum Deed {
     Asks(u32, ClientEvent),
 }
 
-// What the rules 4 to 12 say of a step: the number of the first that it breaks, or 0; whether the message that it names is taken
-// out; and what happens. In a refused step no message is taken out, and nothing happens.
-#[derive(Clone, Copy)]
-pub struct Decision {
-    pub refusal: u32,
-    pub taken: bool,
-    pub happens: Deed,
-}
-
-// The answer to a step: the refusal or 0, the outcome (0 where refused), and the facade.
-#[derive(Clone, Copy)]
-pub struct Answer {
-    pub refusal: u32,
-    pub outcome: u32,
-    pub facade: Facade,
-}
-
-// What a party sends: the first `count` messages, in order.
+// What a party sends: the first `count` messages, in order. There is no heap for a `Vec`, and definitions say what each of the four
+// places holds, as the flat form has them.
 #[derive(Clone, Copy)]
 pub struct Outbox {
     pub count: u32,
@@ -329,22 +314,4 @@ pub struct Reaction<T> {
     pub after: T,
     pub outcome: Outcome,
     pub outbox: Outbox,
-}
-
-// A facade but for its servers, its clients and its messages.
-#[derive(Clone, Copy)]
-pub struct World {
-    pub config: Config,
-    pub time: u32,
-    pub next: u32,
-    pub offsets: [i32; 36],
-    pub notices: [u32; 16],
-    pub waiting: u32,
-}
-
-// Of each server whether it is alive, and c, the true time of the last change.
-#[derive(Clone, Copy)]
-pub struct Lives {
-    pub alive: [bool; 4],
-    pub changed: [u32; 4],
 }

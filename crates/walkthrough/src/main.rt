@@ -6,7 +6,7 @@
 // than 2Δ, and client 1 is lent the address until 213.
 #![tactic(auto)]
 
-ghost use Rattle.std.specs.Prelude.{◌≡◌, IfOk};
+ghost use Rattle.std.specs.Prelude.{◌≡◌, OnOk};
 ghost use Rattle.rules.specs.Steps.{step as step'};
 
 use input::EXAMPLE;
@@ -64,22 +64,20 @@ const FAILOVER: [[u32; 4]; 47] = [
     [8, 2, 0, 0],
 ];
 
-// Takes a step, prints its line and gives the facade that it returns.
-fn take(rt: &impl Print, f: Facade, number: usize, s: Step) -> io::Result<Facade>
-    ensures { IfOk result (λ g. g ≡ (step' f s).facade) }
+// Takes a step and prints its line.
+fn take(rt: &impl Print, f: &mut Facade, number: usize, s: Step) -> io::Result<()>
+    ensures { OnOk result (f.new ≡ (step' f.old s).facade) }
 {
-    let x = facade::step(f, s);
-    let g = x.facade;
-    println!(rt;
-        "{number} {} {} {} {}",
-        x.refusal, x.outcome, g.time, g.waiting
-    )?;
-    Ok(g)
+    let (refusal, outcome) = match facade::step(f, s) {
+        Ok(x) => (0, u32::from(x)),
+        Err(n) => (u32::from(n), 0),
+    };
+    println!(rt; "{number} {refusal} {outcome} {} {}", f.time, f.waiting)
 }
 
 // Takes the steps of a table, from the fresh facade of a configuration.
 fn walk(rt: &impl Print, c: Config, rows: &[[u32; 4]]) -> io::Result<()> {
-    let mut f = facade::start(c).facade;
+    let mut f = facade::fresh(c);
     for (n, row) in rows.iter().enumerate() {
         let [kind, first, second, third] = *row;
         let s = Step {
@@ -88,9 +86,9 @@ fn walk(rt: &impl Print, c: Config, rows: &[[u32; 4]]) -> io::Result<()> {
             second,
             third,
         };
-        f = take(rt, f, n + 1, s)?;
+        take(rt, &mut f, n + 1, s)?;
     }
-    let held = facade::held_clients(f);
+    let held = facade::held_clients(&f);
     println!(rt; "held {held}")
 }
 

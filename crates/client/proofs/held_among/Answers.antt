@@ -10,5 +10,5 @@ use Rattle.client.proofs.held_among.Goals as goal
 
 pub returns : goal.returns
 unfolding held_among
-returns c = count_of_first (λ y. is_holding y.state) c.args.ys no_client c.args.c.clients (search rules) (search rules) (search rules) c.count.ensures.ran (λ x b q k. search (rules, tests))
+returns c = count_of_first (λ y. is_holding y.state) c.args.ys.now no_client c.args.c.clients (search rules) (search rules) (search rules) c.count.ensures.ran (λ x b q k. search (rules, tests))
     ∙ ap (counted _) (search rules)

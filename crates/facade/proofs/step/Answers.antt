@@ -1,12 +1,16 @@
-use mathlib.Core.Path.{sym, ◌∙◌}
+use mathlib.Core.Path.{◌≡◌}
+use mathlib.Core.Bool.{false}
+use borrow.Author.Rules.{rules}
+use Rattle.std.specs.Prelude.{Err}
+use Rattle.types.specs.declared.Refusal.TheVariants.{OutOfRange}
+use Rattle.rules.specs.Ranges.{in_range}
 use Rattle.rules.specs.Steps.{action_of, step}
 use Rattle.rules.proofs.Refusals.{refused_2}
 use Rattle.facade.proofs.step.Goals as goal
 
-pub step_in_range-requires : goal.step_in_range-requires
-step_in_range-requires c = rw (sym c.in_range.ensures ∙ c.if-in_range.true) tt
-
-pub returns : goal.returns
+pub returns-in_err-check : goal.returns-in_err-check
 unfolding step
-returns c =
-    c.refused.ensures ∙ refused_2 c.args.f (action_of c.args.s) (sym c.in_range.ensures ∙ c.if-in_range.false)
+returns-in_err-check c =
+    let same : c.from_residual.result ≡ Err OutOfRange = search rules in
+    let out : in_range c.args.f.now ≡ false = search rules in
+    rw same (refused_2 c.args.f.now (action_of c.args.s) out)

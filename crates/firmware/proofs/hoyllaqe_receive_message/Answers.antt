@@ -1,51 +1,10 @@
-use mathlib.Core.Path.{◌≡◌, sym, ◌∙◌}
-use mathlib.Core.Bool.{Bool, true}
-use native.Mathlib.Omega.{arith}
+use mathlib.Core.Path.{◌∙◌}
 use borrow.Author.Rules.{rules}
-use Rattle.types.specs.declared.Config.{Config}
-use Rattle.types.specs.declared.Server.{Server}
-use Rattle.types.specs.declared.Message.{Message}
-use Rattle.rules.specs.Conditions.{◌and◌}
-use Rattle.rules.proofs.Laws.{tests}
-use Rattle.flat.specs.Flat.{codes_message}
-use Rattle.device.specs.declared.Reply.{Reply}
-use Rattle.device.specs.Device.{device_receives}
-use Rattle.device.proofs.Laws.{first_holds}
-use Rattle.firmware.specs.Firmware.{server_left, are_server_lists, receive_message_left}
-use Rattle.firmware.proofs.Laws.{server_lengths, message_length, codes_nothing, reads_message, replied}
+use Rattle.flat.specs.Flat.{server_in}
+use Rattle.firmware.specs.Firmware.{receive_message_left}
+use Rattle.firmware.proofs.Laws.{with_message}
 use Rattle.firmware.proofs.hoyllaqe_receive_message.Goals as goal
-use Rattle.firmware.proofs.hoyllaqe_receive_message.Goals.{Else-not-fits}
-
--- the lists code what they stand for
-told : (c : Else-not-fits)
-    → (are_server_lists c.args.config.now c.args.server.now c.args.sent.now and codes_message c.args.message.now) ≡ true
-told c =
-    sym (search (rules, tests)) ∙ c.if-not-fits.false
-
-pub returns-then-not-fits : goal.returns-then-not-fits
-unfolding receive_message_left
-returns-then-not-fits c =
-    codes_nothing _ _ _ _ _ _ (are_server_lists c.args.config.now c.args.server.now c.args.sent.now and codes_message c.args.message.now)
-    (sym (search (rules, tests)) ∙ c.if-not-fits.true)
-
-pub config_in-c-requires : goal.config_in-c-requires
-config_in-c-requires c = omega (arith, (server_lengths _ _ _ (first_holds _ _ (told (goal.at.config_in-c-requires c).Else-not-fits))).0)
-
-pub server_in-s-requires : goal.server_in-s-requires
-server_in-s-requires c = omega (arith, (server_lengths _ _ _ (first_holds _ _ (told (goal.at.server_in-s-requires c).Else-not-fits))).2)
-
-pub message_in-m-requires : goal.message_in-m-requires
-message_in-m-requires c = omega (arith, message_length _ _ (told (goal.at.message_in-m-requires c).Else-not-fits))
-
-pub put_server_reply-requires : goal.put_server_reply-requires
-put_server_reply-requires c =
-    let n = server_lengths _ _ _ (first_holds _ _ (told (goal.at.put_server_reply-requires c).Else-not-fits)) in
-    record { server_len = n.2; sent_len = n.1 }
 
 pub returns : goal.returns
 unfolding receive_message_left
-returns c =
-    replied (λ (b : Bool) (z : Reply Server). server_left b z c.args.server.now c.args.sent.now) _ _ (told (goal.at.returns c).Else-not-fits)
-    (reads_message (λ (f : Config) (s : Server) (v : Message). device_receives f c.args.number c.args.reading s v)
-    c.config_in-c.ensures c.server_in-s.ensures c.message_in-m.ensures c.device_receives-x.ensures)
-    c.put_server_reply.ensures
+returns c = c.answered.ensures _ (λ y h. search rules) ∙ with_message (server_in c.args.server.now 0) _ _ _ _ _ _

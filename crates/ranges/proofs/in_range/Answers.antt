@@ -6,7 +6,7 @@ use Rattle.ranges.proofs.in_range.Goals as goal
 
 pub places_in_range-requires : goal.places_in_range-requires
 places_in_range-requires c =
-    (told _ (sym c.config_in_range.ensures ∙ c.if-config_in_range.true), waiting_told c.args.f (sym c.numbers_in_range.ensures ∙ c.if-numbers_in_range.true))
+    (told _ (sym c.config_in_range.ensures ∙ c.if-config_in_range.true), waiting_told c.args.f.now (sym c.numbers_in_range.ensures ∙ c.if-numbers_in_range.true))
 
 pub returns-then-numbers_in_range : goal.returns-then-numbers_in_range
 unfolding in_range

@@ -6,9 +6,5 @@ use Rattle.replay.proofs.go_on.Goals as goal
 pub put_turns-requires : goal.put_turns-requires
 put_turns-requires c =
     let u = c.requires.0 in
-    let r = c.args.r in
+    let r = c.args.r.now in
     (u, omega (arith, c.requires.2, lines_few c.args.s.now u.short piece_turns r.facade r.place r.number u.sound u.counted))
-
-pub returns : goal.returns
-returns c =
-    record { progress_value = (c.put_turns.ensures.progress_value.0, c.put_turns.ensures.progress_value.1, omega (arith, c.put_turns.ensures.progress_value.2)); out_after = c.put_turns.ensures.out_after }

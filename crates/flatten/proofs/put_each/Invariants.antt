@@ -1,5 +1,0 @@
-use Rattle.flatten.proofs.Laws.{Put}
-use Rattle.flatten.proofs.put_each.Given as goal
-
-abbrev pub invariant-loop-i : goal.invariant-loop-i
-invariant-loop-i g l = Put g.T.Flat.Shaped g.T.Flat.numbers l.xs l.initial.out l.at l.i l.out

@@ -1,0 +1,31 @@
+-- How large the numbers of a facade in range are.
+use Prim.Native.Nat.{ℕ, ◌≤◌, ◌<◌}
+use native.Mathlib.Omega.{arith}
+use lib.Dec.{T, leb→le}
+use lib.IntN.{nat_abs}
+use Rattle.types.specs.declared.Facade.{Facade}
+use Rattle.rules.specs.Parts.{offset_at, clock, parties}
+use Rattle.rules.specs.Ranges.{in_range, offset_in_range}
+use Rattle.rules.proofs.Laws.{and_l}
+use Rattle.rules.proofs.Kept.{Configured, configured, ranged}
+use Rattle.rules.proofs.Leadership.{clock_high}
+
+module _ (f : Facade) (t : T (in_range f)) where
+  pub sizes : Configured f.config
+  sizes = configured f.config (ranged f t).config
+
+  pub time_high : f.time ≤ 1000000000
+  time_high = (ranged f t).time
+
+  pub next_high : f.next ≤ 1000001
+  next_high = (ranged f t).next_high
+
+  pub waiting_high : f.waiting ≤ 128
+  waiting_high = (ranged f t).waiting
+
+  pub offset_high : (p : ℕ) → p < parties f.config → nat_abs (offset_at f p) ≤ 1000
+  unfolding offset_in_range
+  offset_high p h = omega (arith, sizes, leb→le (nat_abs (offset_at f p)) f.config.skew (and_l _ _ ((ranged f t).offset p h)))
+
+  pub reading_high : (p : ℕ) → p < parties f.config → clock f p ≤ 1000001000
+  reading_high p h = omega (arith, sizes, time_high, clock_high f (ranged f t) p h)
