@@ -2,25 +2,10 @@
 #![tactic(auto)]
 
 ghost use Rattle.std.specs.Prelude.{◌≡◌, ◌≤◌, cond, Ok, Err, nat_abs, ◌+ℤ◌};
-ghost use Rattle.rules.specs.Conditions.{◌and◌, ◌or◌, is_within, unless as unless'};
 ghost use Rattle.rules.specs.Clock.{clock_reading, not_negative, as_signed};
 ghost use Rattle.rules.specs.Ranges.{last_time};
 
 use types::Refusal;
-
-// Both tests, in the order of the rules.
-pub fn both(x: bool, y: bool) -> bool
-    ensures { result ≡ (x and y) }
-{
-    if x { y } else { false }
-}
-
-// One of two tests.
-pub fn either(x: bool, y: bool) -> bool
-    ensures { result ≡ (x or y) }
-{
-    if x { true } else { y }
-}
 
 // Refusal n, where its test fails.
 pub fn check(ok: bool, n: Refusal) -> Result<(), Refusal>
@@ -29,39 +14,11 @@ pub fn check(ok: bool, n: Refusal) -> Result<(), Refusal>
     if ok { Ok(()) } else { Err(n) }
 }
 
-// The number of a refusal where its test fails, and else what the refusals below it give.
-pub fn unless(ok: bool, n: u32, below: u32) -> u32
-    ensures { result ≡ unless' ok n below }
-{
-    if ok { below } else { n }
-}
-
-// Whether x lies between two bounds.
-pub fn is_within(low: u32, high: u32, x: u32) -> bool
-    ensures { result ≡ is_within low high x }
-{
-    both(low <= x, x <= high)
-}
-
-// By how much an offset is off.
-pub fn magnitude(o: i32) -> u32
-    ensures { result ≡ nat_abs o }
-{
-    if o < 0 {
-        ((-1 - o) as u32) + 1
-    } else {
-        o as u32
-    }
-}
-
 // Whether t with the signed amount o is not negative.
 pub fn not_negative(t: u32, o: i32) -> bool
     ensures { result ≡ not_negative t o }
 {
-    if o < 0 {
-        return magnitude(o) <= t;
-    }
-    true
+    0 <= o || o.unsigned_abs() <= t
 }
 
 // A clock: true time t with the signed amount o by which it is ahead.
@@ -69,9 +26,9 @@ pub fn clock_reading(t: u32, o: i32) -> u32
     requires { t ≤ last_time }
     ensures { result ≡ clock_reading t o }
 {
-    let n = magnitude(o);
+    let n = o.unsigned_abs();
     if o < 0 {
-        return if n < t { t - n } else { 0 };
+        return t.saturating_sub(n);
     }
     t + n
 }
@@ -85,12 +42,9 @@ pub fn shifted(o: i32, e: i32) -> i32
 }
 
 // A number of four bytes in two's complement.
+#[tactic(auto, unfolding(rules::specs::Clock::as_signed))]
 pub fn as_signed(x: u32) -> i32
     ensures { result ≡ as_signed x }
 {
-    if x < 2147483648 {
-        x as i32
-    } else {
-        -1 - ((4294967295 - x) as i32)
-    }
+    x.cast_signed()
 }

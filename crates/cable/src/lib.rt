@@ -16,7 +16,7 @@ pub fn rest_of(n: u32, taken: bool) -> u32
 }
 
 // How many of them wait then, where so many more are sent.
-pub fn waiting_then(n: u32, taken: bool, count: u32) -> u32
+fn waiting_then(n: u32, taken: bool, count: u32) -> u32
     requires { (n ≤ 128) × (count ≤ 4) × (T taken → 1 ≤ n) }
     ensures { result ≡ waiting_then n taken count }
 {
@@ -32,6 +32,7 @@ pub fn room_for(n: u32, taken: bool, count: u32) -> bool
 }
 
 // Of n waiting messages that at p is taken out: those behind it move up, and the last place is emptied.
+#[tactic(auto, using(crate::proofs::Laws::moved_up))]
 fn take_out(ms: &mut [Message; 128], p: u32, n: u32)
     requires { (p < n) × (n ≤ 128) }
     ensures { ms.new ≡ removed ms.old p n }
@@ -44,6 +45,7 @@ fn take_out(ms: &mut [Message; 128], p: u32, n: u32)
 }
 
 // What o holds waits behind the w messages that wait. What there is no room for is dropped; refusal 13 stands before.
+#[tactic(auto, using(crate::proofs::Laws::sent_more, crate::proofs::Laws::sent_full), unfolding(rules::specs::Messages::sent_behind))]
 fn put_behind(ms: &mut [Message; 128], w: u32, o: &Outbox)
     requires { o.now.count ≤ 4 }
     ensures { ms.new ≡ sent_behind ms.old w o.now o.now.count }

@@ -5,10 +5,10 @@ ghost use Rattle.std.specs.Prelude.{◌≡◌, ◌<◌};
 ghost use Rattle.types.specs.declared.Outcome.TheVariants.{Unmet};
 ghost use Rattle.rules.specs.Messages.{nothing as nothing'};
 ghost use Rattle.rules.specs.Client.{is_offered, is_holding, reply as reply', broadcast as broadcast', lapsed as lapsed', discovers as discovers', requests as requests', renews as renews', asks_with, on_offer, expects as expects', on_ack, client_receives};
-ghost use Rattle.rules.proofs.Kept.{Configured};
 ghost use Rattle.rules.specs.Steps.{held_among};
 
-use outbox::{nothing, to_each};
+use outbox::{nothing, to_each, unmet};
+use ranges::InRange;
 use types::{Body, Client, Config, Message, Outbox, Outcome, Reaction, State};
 
 // A client in state x with outcome n, and what it sends.
@@ -26,21 +26,21 @@ fn reply(x: State, n: Outcome, o: Outbox) -> Reaction<Client>
 fn unmoved(x: State) -> Reaction<Client>
     ensures { result ≡ reply' x Unmet nothing' }
 {
-    reply(x, Outcome::Unmet, nothing())
+    unmet(Client { state: x })
 }
 
 // The same message to each server.
-fn broadcast(c: Config, i: u32, q: u32, body: Body) -> Outbox
-    requires { Configured c × (i < c.clients) }
+fn broadcast(c: InRange, i: u32, q: u32, body: Body) -> Outbox
+    requires { i < c.clients }
     ensures { result ≡ broadcast' c i q body }
 {
     let m = Message {
-        sender: c.servers + i,
+        sender: c.config.servers + i,
         receiver: 0,
         interaction: q,
         body,
     };
-    to_each(m, c.servers)
+    to_each(m, c.config.servers)
 }
 
 #[tactic(auto, unfolding(rules::specs::Client::is_offered))]
@@ -70,8 +70,8 @@ pub fn lapsed(r: u32, x: State) -> State
 
 // A discover with the new interaction q.
 #[tactic(auto, unfolding(rules::specs::Client::discovers))]
-pub fn discovers(c: Config, i: u32, x: State, q: u32) -> Reaction<Client>
-    requires { Configured c × (i < c.clients) }
+pub fn discovers(c: InRange, i: u32, x: State, q: u32) -> Reaction<Client>
+    requires { i < c.clients }
     ensures { result ≡ discovers' c i x q }
 {
     if is_holding(x) {
@@ -86,8 +86,8 @@ pub fn discovers(c: Config, i: u32, x: State, q: u32) -> Reaction<Client>
 
 // A request with the wanted end t.
 #[tactic(auto, unfolding(rules::specs::Client::requests))]
-pub fn requests(c: Config, i: u32, x: State, t: u32) -> Reaction<Client>
-    requires { Configured c × (i < c.clients) }
+pub fn requests(c: InRange, i: u32, x: State, t: u32) -> Reaction<Client>
+    requires { i < c.clients }
     ensures { result ≡ requests' c i x t }
 {
     match x {
@@ -101,8 +101,8 @@ pub fn requests(c: Config, i: u32, x: State, t: u32) -> Reaction<Client>
 
 // A renewal with the wanted end t and the new interaction n.
 #[tactic(auto, unfolding(rules::specs::Client::renews))]
-pub fn renews(c: Config, i: u32, x: State, t: u32, n: u32) -> Reaction<Client>
-    requires { Configured c × (i < c.clients) }
+pub fn renews(c: InRange, i: u32, x: State, t: u32, n: u32) -> Reaction<Client>
+    requires { i < c.clients }
     ensures { result ≡ renews' c i x t n }
 {
     match x {

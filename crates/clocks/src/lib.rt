@@ -66,7 +66,9 @@ pub fn moved(f: &mut Facade, d: u32, p: u32, e: i32)
     f.offsets[at] = shifted(f.offsets[at], e);
 }
 
-// Holds whose end is not above their client's clock are over.
+// Holds whose end is not above their client's clock are over. A clause, and no `InRange`: the configuration is the facade's own, which
+// may be of any numbers.
+#[tactic(auto, using(arith::proofs::Chains::written_none, arith::proofs::Chains::written_more, arith::proofs::Chains::written_all, arith::proofs::Chains::next_still), unfolding(rules::specs::Steps::lapsed_at, rules::specs::Steps::holds_ended, rules::specs::Steps::lapse))]
 pub fn lapse(f: &mut Facade)
     requires { Configured f.old.config × (f.old.time ≤ last_time) }
     ensures { f.new ≡ lapse f.old }

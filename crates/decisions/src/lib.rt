@@ -5,7 +5,8 @@ ghost use Rattle.std.specs.Prelude.{◌≡◌, cond, Some, None, T, ltb};
 ghost use Rattle.types.specs.Numbers.{refusal_of};
 ghost use Rattle.rules.specs.Conditions.{unless};
 ghost use Rattle.rules.specs.Parts.{server_at, state_at, message_at};
-ghost use Rattle.rules.specs.Ranges.{is_server, in_range};
+ghost use Rattle.rules.specs.Ranges.{is_server};
+ghost use Rattle.rules.proofs.Sizes.{WorldInRange};
 ghost use Rattle.rules.specs.Views.{whole};
 ghost use Rattle.rules.specs.Steps.{pass, notice, malformed, barred as barred', position, takes_out, delivered as delivered', deed_of};
 
@@ -76,9 +77,9 @@ fn notice_barred(f: &Facade, k: u32, j: u32, says: u32) -> Result<(), Refusal>
 }
 
 // Refusals 6, 8, 9 and 10 of a pass.
-#[tactic(auto, using(rules::proofs::Laws::tests), unfolding(rules::specs::Conditions::unless, rules::specs::Steps::barred, rules::specs::Steps::exists, rules::specs::Steps::state_allows, rules::specs::Steps::of_pass, rules::specs::Steps::time_left, rules::specs::Steps::clock_allows, rules::specs::Steps::in_touch, rules::specs::Steps::of_notice, rules::specs::Steps::interaction_left))]
+#[tactic(auto, using(rules::proofs::Laws::tests, rules::proofs::Sizes::world_sizes, rules::proofs::Sizes::world_time, rules::proofs::Sizes::world_offset, crate::proofs::Laws::pass_fields, std::proofs::lemmas::Int::ints), unfolding(rules::specs::Conditions::unless, rules::specs::Steps::barred, rules::specs::Steps::exists, rules::specs::Steps::state_allows, rules::specs::Steps::of_pass, rules::specs::Steps::time_left, rules::specs::Steps::clock_allows, rules::specs::Steps::in_touch, rules::specs::Steps::of_notice, rules::specs::Steps::interaction_left))]
 fn pass_barred(f: &Facade, d: u32, p: u32, e: i32) -> Result<(), Refusal>
-    requires { T (in_range f.now) × (malformed (pass d p e) 0 ≡ 0) }
+    requires { WorldInRange f.now × (malformed (pass d p e) 0 ≡ 0) }
     ensures { refusal_of result ≡ barred' (whole f.now) (pass d p e) 0 }
 {
     let c = f.config;
@@ -94,7 +95,7 @@ fn pass_barred(f: &Facade, d: u32, p: u32, e: i32) -> Result<(), Refusal>
 // Refusals 6 to 12.
 #[tactic(auto, unfolding(rules::specs::Conditions::unless, rules::specs::Steps::barred, rules::specs::Steps::exists, rules::specs::Steps::state_allows, rules::specs::Steps::of_pass, rules::specs::Steps::of_notice, rules::specs::Steps::interaction_left))]
 pub fn barred(f: &Facade, a: Action) -> Result<(), Refusal>
-    requires { T (in_range f.now) × (malformed a 0 ≡ 0) }
+    requires { WorldInRange f.now × (malformed a 0 ≡ 0) }
     ensures { refusal_of result ≡ barred' (whole f.now) a 0 }
 {
     let c = f.config;

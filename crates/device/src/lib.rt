@@ -5,14 +5,13 @@
 ghost use Rattle.std.specs.Prelude.{◌≡◌, ◌≤◌, true, false, MatchResult, T};
 ghost use Rattle.types.specs.declared.Refusal.TheVariants.{OutOfRange};
 ghost use Rattle.rules.specs.Ranges.{last_reading, body_in_range};
-ghost use Rattle.rules.proofs.Kept.{Configured};
 ghost use Rattle.device.specs.Device.{message_fits, server_fits, reply_of, device_receives, device_noticed, device_returned, device_cleaned, client_fits, device_hears, device_discovers, device_requests, device_renews, device_lapses};
 
 use arith::check;
 use client::{is_holding, is_offered};
 use decisions::client_barred;
 use outbox::done;
-use ranges::{config_in_range, message_in_range, server_in_range, state_in_range};
+use ranges::{InRange, checked, message_in_range, server_in_range, state_in_range};
 use steps::malformed;
 use types::{
     AFTER_LAST, Action, Client, Config, LAST_INTERACTION, LAST_READING, LAST_TIME, Message,
@@ -21,8 +20,7 @@ use types::{
 
 // Refusal 2 where m is not in range, or not for party p. The number of a client may be any, so that of its party may pass 32 bits.
 #[tactic(auto, using(rules::proofs::Laws::tests), unfolding(crate::specs::Device::message_fits, rules::specs::Ranges::message_in_range))]
-fn check_message(c: Config, p: u64, m: Message) -> Result<(), Refusal>
-    requires { Configured c }
+fn check_message(c: InRange, p: u64, m: Message) -> Result<(), Refusal>
     ensures { MatchResult result (λ _. (message_fits c p m ≡ true) × T (body_in_range c m.sender p m.body)) (λ n. (n ≡ OutOfRange) × (message_fits c p m ≡ false)) }
 {
     check(
@@ -32,16 +30,17 @@ fn check_message(c: Config, p: u64, m: Message) -> Result<(), Refusal>
 }
 
 // Refusal 2 where a number of a server is not in range.
-#[tactic(auto, using(rules::proofs::Laws::tests, ranges::proofs::Laws::told), unfolding(crate::specs::Device::server_fits))]
-fn check_server(c: Config, r: u32, s: Server) -> Result<(), Refusal>
-    ensures { MatchResult result (λ _. (server_fits c r s ≡ true) × Configured c × (r ≤ last_reading)) (λ n. (n ≡ OutOfRange) × (server_fits c r s ≡ false)) }
+#[tactic(auto, using(rules::proofs::Laws::tests), unfolding(crate::specs::Device::server_fits))]
+fn check_server(c: Config, r: u32, s: Server) -> Result<InRange, Refusal>
+    ensures { MatchResult result (λ x. (x ≡ c) × (server_fits c r s ≡ true) × (r ≤ last_reading)) (λ n. (n ≡ OutOfRange) × (server_fits c r s ≡ false)) }
 {
-    check(config_in_range(c), Refusal::OutOfRange)?;
+    let known = checked(c)?;
     check(r <= LAST_READING, Refusal::OutOfRange)?;
     check(
         server_in_range(c, LAST_TIME, AFTER_LAST, s),
         Refusal::OutOfRange,
-    )
+    )?;
+    Ok(known)
 }
 
 // A message comes to the server.
@@ -55,10 +54,10 @@ pub fn device_receives(
 ) -> Result<Reaction<Server>, Refusal>
     ensures { reply_of s result ≡ device_receives c k r s m }
 {
-    check_server(c, r, s)?;
-    check_message(c, k as u64, m)?;
+    let known = check_server(c, r, s)?;
+    check_message(known, k as u64, m)?;
     check(k < c.servers, Refusal::DoesNotExist)?;
-    Ok(server::server_receives(c, k, r, s, m))
+    Ok(server::server_receives(known, k, r, s, m))
 }
 
 // A notice: server `about` is dead (0) or alive (1).
@@ -73,11 +72,11 @@ pub fn device_noticed(
 ) -> Result<Reaction<Server>, Refusal>
     ensures { reply_of s result ≡ device_noticed c k r s about says }
 {
-    check_server(c, r, s)?;
+    let known = check_server(c, r, s)?;
     malformed(Action::Notice(k, about, says))?;
     check(k < c.servers, Refusal::DoesNotExist)?;
     check(about < c.servers && about != k, Refusal::DoesNotExist)?;
-    Ok(server::noticed(c, k, r, s, about, says))
+    Ok(server::noticed(known, k, r, s, about, says))
 }
 
 // The server comes back after a failure. Whether it is alive is not its own to say: `alive` stays as given.
@@ -95,19 +94,20 @@ pub fn device_returned(c: Config, k: u32, r: u32, s: Server) -> Result<Reaction<
 pub fn device_cleaned(c: Config, k: u32, r: u32, s: Server) -> Result<Reaction<Server>, Refusal>
     ensures { reply_of s result ≡ device_cleaned c k r s }
 {
-    check_server(c, r, s)?;
+    let known = check_server(c, r, s)?;
     check(k < c.servers, Refusal::DoesNotExist)?;
-    Ok(server::cleaned(c, r, s))
+    Ok(server::cleaned(known, r, s))
 }
 
 // Refusal 2 where a number of a client is not in range.
-#[tactic(auto, using(rules::proofs::Laws::tests, ranges::proofs::Laws::told), unfolding(crate::specs::Device::client_fits))]
-fn check_client(c: Config, r: u32, x: State) -> Result<(), Refusal>
-    ensures { MatchResult result (λ _. (client_fits c r x ≡ true) × Configured c) (λ n. (n ≡ OutOfRange) × (client_fits c r x ≡ false)) }
+#[tactic(auto, using(rules::proofs::Laws::tests), unfolding(crate::specs::Device::client_fits))]
+fn check_client(c: Config, r: u32, x: State) -> Result<InRange, Refusal>
+    ensures { MatchResult result (λ w. (w ≡ c) × (client_fits c r x ≡ true)) (λ n. (n ≡ OutOfRange) × (client_fits c r x ≡ false)) }
 {
-    check(config_in_range(c), Refusal::OutOfRange)?;
+    let known = checked(c)?;
     check(r <= LAST_READING, Refusal::OutOfRange)?;
-    check(state_in_range(c, AFTER_LAST, x), Refusal::OutOfRange)
+    check(state_in_range(c, AFTER_LAST, x), Refusal::OutOfRange)?;
+    Ok(known)
 }
 
 // A message comes to the client.
@@ -122,8 +122,8 @@ pub fn device_hears(
     ensures { reply_of y result ≡ device_hears c i r y m }
 {
     let party = (c.servers as u64) + (i as u64);
-    check_client(c, r, y.state)?;
-    check_message(c, party, m)?;
+    let known = check_client(c, r, y.state)?;
+    check_message(known, party, m)?;
     check(i < c.clients, Refusal::DoesNotExist)?;
     Ok(client::client_receives(r, y.state, m))
 }
@@ -140,10 +140,10 @@ pub fn device_discovers(
     ensures { reply_of y result ≡ device_discovers c i r y q }
 {
     let x = y.state;
-    check_client(c, r, x)?;
+    let known = check_client(c, r, x)?;
     check(1 <= q, Refusal::OutOfRange)?;
     client_barred(c, i, !is_holding(x), q <= LAST_INTERACTION)?;
-    Ok(client::discovers(c, i, x, q))
+    Ok(client::discovers(known, i, x, q))
 }
 
 // A request with the wanted end t.
@@ -158,10 +158,10 @@ pub fn device_requests(
     ensures { reply_of y result ≡ device_requests c i r y t }
 {
     let x = y.state;
-    check_client(c, r, x)?;
+    let known = check_client(c, r, x)?;
     malformed(Action::Request(i, t))?;
     client_barred(c, i, is_offered(x), true)?;
-    Ok(client::requests(c, i, x, t))
+    Ok(client::requests(known, i, x, t))
 }
 
 // A renewal with the wanted end t and the new interaction q.
@@ -177,11 +177,11 @@ pub fn device_renews(
     ensures { reply_of y result ≡ device_renews c i r y t q }
 {
     let x = y.state;
-    check_client(c, r, x)?;
+    let known = check_client(c, r, x)?;
     check(1 <= q, Refusal::OutOfRange)?;
     malformed(Action::Renew(i, t))?;
     client_barred(c, i, is_holding(x), q <= LAST_INTERACTION)?;
-    Ok(client::renews(c, i, x, t, q))
+    Ok(client::renews(known, i, x, t, q))
 }
 
 // Time passes: a hold whose end is not above the clock is over.

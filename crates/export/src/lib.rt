@@ -1,6 +1,7 @@
 // What programs in other languages call: the project's functions on numbers and slices. Nothing is trusted: a list of the wrong
 // length, and one with a number that codes nothing, is refused with 2. A refusal leaves every list as it was, and gives outcome and
-// length 0. A facade that was put codes one again, so the next step can be taken of it.
+// length 0. A facade that was put codes one again, so the next step can be taken of it. A refusal is its number here, 0 for none, since C
+// has no `Result`.
 #![tactic(auto)]
 
 ghost use Rattle.std.specs.Prelude.{◌≡◌, true, length};

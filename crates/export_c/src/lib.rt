@@ -1,4 +1,5 @@
-// The functions of `export` under their C names, for the static library that C and Rust link. Each calls its namesake.
+// The functions of `export` under their C names, for the static library that C and Rust link. Each calls its namesake,
+// and answers a number, since C has no `Result`.
 #![tactic(auto)]
 
 ghost use Rattle.std.specs.Prelude.{◌≡◌, true, length};

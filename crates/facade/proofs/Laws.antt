@@ -76,10 +76,10 @@ module _ (f g : Facade) (taken : Option ℕ) (o : Outbox) (n : ℕ) {a : Answer}
   room_is : has_room ((taken_from g taken).waiting + o.count) ≡ room_for f.waiting (is_some taken) o.count
   room_is = rw (rest_is g taken, same)
 
-  pub put_in : room_for f.waiting (is_some taken) o.count ≡ true → accepted (send_all (taken_from g taken) o) n ≡ unless_full f a
+  pub has_room_left : room_for f.waiting (is_some taken) o.count ≡ true → accepted (send_all (taken_from g taken) o) n ≡ unless_full f a
   unfolding unless_full unless
-  put_in h = rw (is, room_is ∙ h)
+  has_room_left h = rw (is, room_is ∙ h)
 
-  pub left_out : room_for f.waiting (is_some taken) o.count ≡ false → refused f 13 ≡ unless_full f a
+  pub is_full : room_for f.waiting (is_some taken) o.count ≡ false → refused f 13 ≡ unless_full f a
   unfolding unless_full unless
-  left_out h = rw (is, room_is ∙ h)
+  is_full h = rw (is, room_is ∙ h)

@@ -3,13 +3,14 @@ use mathlib.Core.Path.{◌≡◌, refl, sym, ◌∙◌}
 use mathlib.Core.Bool.{Bool, true, false, cond}
 use Prim.Native.Nat.{ℕ, zero, suc, ◌+◌, ◌≤◌, ◌<◌}
 use native.Mathlib.Omega.{arith}
-use borrow.Author.Tests.{le-leb, ne_eqb}
+use borrow.Author.Tests.{le-leb, lt-leb, ne_eqb}
 use lib.Dec.{T, ltb, leb→le, ltb→lt, nltb→le}
 use lib.IntN.{ℤ, nat_abs}
 use Rattle.std.specs.Prelude.{Option, Some, None, IfSome}
 use Rattle.types.specs.declared.Config.{Config}
 use Rattle.types.specs.declared.Message.{Message}
 use Rattle.types.specs.declared.Facade.{Facade}
+use Rattle.rules.specs.Answers.{Answer}
 use Rattle.types.specs.declared.ServerEvent.{ServerEvent}
 use Rattle.types.specs.declared.ClientEvent.{ClientEvent}
 use Rattle.types.specs.declared.Deed.{Deed}
@@ -129,6 +130,16 @@ is_decided f t a = go (broken (whole f) a 0) refl where
   go : (n : ℕ) → broken (whole f) a 0 ≡ n → unless_refused f n (unless_refused f (full (effect f a).facade) (effect f a)) ≡ answer_to f a
   go zero e = unless_full_lem f a t e
   go (suc n) e = let some : suc n ≡ 0 → ⊥ = λ z. omega (arith, z) in rw (ne_eqb (suc n) 0 some) (refused_first f a t (suc n) (sym e) some)
+
+-- so of a step that breaks none of the rules 4 to 12, and whose effect is b, by whether it finds room
+module _ (f : Facade) (t : T (in_range f)) (a : Action) (e : broken (whole f) a 0 ≡ 0) {b : Answer} (is : effect f a ≡ b) where
+  pub put_in : b.facade.waiting ≤ 128 → b ≡ answer_to f a
+  unfolding unless_full unless
+  put_in h = rw (e, is, le-leb b.facade.waiting 128 h) at (is_decided f t a)
+
+  pub left_out : 128 < b.facade.waiting → refused f 13 ≡ answer_to f a
+  unfolding unless_full unless
+  left_out h = rw (e, is, lt-leb b.facade.waiting 128 h) at (is_decided f t a)
 
 -- step a breaks rule 4 or 5
 pub is_malformed : (f : Facade) → T (in_range f) → (a : Action) (n : ℕ) → n ≡ malformed a 0 → (n ≡ 0 → ⊥) → refused f n ≡ answer_to f a

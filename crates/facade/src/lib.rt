@@ -19,7 +19,7 @@ use client::held_among;
 use clocks::{lapse, moved};
 use decisions::{barred, deed_of, taken_out};
 use deeds::{asked, next_after, notices_after, served};
-use ranges::{config_in_range, in_range};
+use ranges::{checked, in_range};
 use steps::{action_of, malformed};
 use types::{
     Action, Client, ClientEvent, Config, Deed, Facade, Outbox, Outcome, Refusal, ServerEvent,
@@ -52,7 +52,7 @@ pub fn start(c: Config) -> Result<Facade, Refusal>
     ensures refusal { refusal_of result ≡ (start' c).refusal }
     ensures facade { IfOk result (λ f. f ≡ (start' c).facade) }
 {
-    check(config_in_range(c), Refusal::OutOfRange)?;
+    checked(c)?;
     Ok(fresh(c))
 }
 
@@ -67,7 +67,11 @@ fn fits(f: &Facade, taken: Option<u32>, sent: &Outbox) -> Result<(), Refusal>
     )
 }
 
+// That a facade is in range stands in clauses, and no type carries it: `ask` may leave the next interaction beyond its range, and
+// only a whole step, which tests that one is left, keeps it.
+
 // Server k is told of an event.
+#[tactic(auto, using(rules::proofs::Sizes::world_of_sound))]
 fn serve(f: &mut Facade, taken: Option<u32>, k: u32, e: ServerEvent) -> Result<Outcome, Refusal>
     requires { T (in_range f.old) × (k < f.old.config.servers) × T (event_in_range f.old.config k e) × IfSome taken (λ p. p < f.old.waiting) }
     ensures { answer_of result f.new ≡ unless_full f.old (enacted (taken_from f.old taken) (Serves k e)) }
@@ -82,6 +86,7 @@ fn serve(f: &mut Facade, taken: Option<u32>, k: u32, e: ServerEvent) -> Result<O
 }
 
 // Client i is told of an event.
+#[tactic(auto, using(rules::proofs::Sizes::world_of_sound))]
 fn ask(f: &mut Facade, taken: Option<u32>, i: u32, e: ClientEvent) -> Result<Outcome, Refusal>
     requires { T (in_range f.old) × (i < f.old.config.clients) × IfSome taken (λ p. p < f.old.waiting) }
     ensures { answer_of result f.new ≡ unless_full f.old (enacted (taken_from f.old taken) (Asks i e)) }
@@ -96,6 +101,7 @@ fn ask(f: &mut Facade, taken: Option<u32>, i: u32, e: ClientEvent) -> Result<Out
 }
 
 // A step of a facade in range that breaks none of the rules 4 and 5. A refused step changes nothing.
+#[tactic(auto, using(rules::proofs::Sizes::world_of_sound))]
 fn take(f: &mut Facade, a: Action) -> Result<Outcome, Refusal>
     requires { T (in_range f.old) × (malformed' a 0 ≡ 0) }
     ensures { answer_of result f.new ≡ answer_to f.old a }

@@ -1,6 +1,6 @@
 // What the firmware of one server, or of one client, links: the functions of crate `device` on numbers and slices. Nothing is
 // trusted: a list of the wrong length, and one with a number that codes nothing, is refused with 2. A refusal leaves every list
-// as it was, and gives outcome 0.
+// as it was, and gives outcome 0. A refusal is its number here, 0 for none, since C has no `Result`.
 #![tactic(auto)]
 
 ghost use Rattle.std.specs.Prelude.{◌≡◌, Result, cond, length, OnOk};

@@ -3,6 +3,9 @@
 // edges, and the buffer after it.
 #![tactic(auto)]
 
+ghost use Rattle.std.specs.Prelude.{◌≡◌};
+ghost use Rattle.script.specs.Reading.{verdict as verdict'};
+
 use input::{EXAMPLE, read_full};
 use script::FIRST_RECORD;
 use std::fs::File;
@@ -14,8 +17,13 @@ use types::{Config, Refusal};
 const TWO_WRONG: [u32; 8] = [1, 0, 0, 0, 99, 0, 0, 0];
 
 // The number of the verdict on a script, 0 if it is accepted.
-fn verdict(s: &[u8]) -> u32 {
-    script::verdict(s).err().map_or(0, u32::from)
+fn verdict(s: &[u8]) -> u32
+    ensures { result ≡ verdict' s.now }
+{
+    match script::verdict(s) {
+        Ok(()) => 0,
+        Err(n) => u32::from(n),
+    }
 }
 
 // The name of a script and its verdict.

@@ -5,10 +5,9 @@
 ghost use Rattle.std.specs.Prelude.{◌≡◌, ◌+◌, ◌%◌, ◌≤◌, ◌<◌};
 ghost use Rattle.rules.specs.Order.{is_first};
 ghost use Rattle.rules.specs.Server.{may_lead, raised as raised'};
-ghost use Rattle.rules.proofs.Kept.{Configured};
 ghost use Rattle.rules.specs.Ranges.{last_reading};
 
-use types::Config;
+use ranges::InRange;
 
 // The server after server j, of n, in the round: by a test, since a division takes longer.
 pub fn next_server(n: u32, j: u32) -> u32
@@ -24,6 +23,7 @@ pub fn next_server(n: u32, j: u32) -> u32
 // Whether server k, of n, is first among those believed live in the order of an address below n, which is that of every address
 // with the same remainder: a walk in that order begins at the server with the address's number, and ends at k, or at one before
 // it that is believed live. `(0..n).all(..)` over ranks was proved too: a whole run then took a tenth more instructions.
+#[tactic(auto, using(crate::proofs::Walk::reached_end, crate::proofs::Walk::reached_other, crate::proofs::Walk::reached_next))]
 fn is_first(n: u32, a: u32, k: u32, b: [bool; 4]) -> bool
     requires { (n ≤ 4) × (a < n) × (k < n) }
     ensures { result ≡ is_first n a k b }
@@ -43,7 +43,7 @@ fn is_first(n: u32, a: u32, k: u32, b: [bool; 4]) -> bool
 // Whether it leads address a now: `returned` is its return reading, `before` whether it led it.
 #[tactic(auto, using(rules::proofs::Laws::tests))]
 pub fn may_lead(
-    c: Config,
+    c: InRange,
     k: u32,
     r: u32,
     returned: u32,
@@ -51,21 +51,21 @@ pub fn may_lead(
     b: [bool; 4],
     a: u32,
 ) -> bool
-    requires { Configured c × (k < c.servers) × (a < c.servers) }
+    requires { (k < c.servers) × (a < c.servers) }
     ensures { result ≡ may_lead c k r returned before b a }
 {
-    let due = returned as u64 + (2 * c.detection + 2 * c.skew) as u64;
-    is_first(c.servers, a, k, b) && (before || due <= r as u64)
+    let due = returned as u64 + (2 * c.config.detection + 2 * c.config.skew) as u64;
+    is_first(c.config.servers, a, k, b) && (before || due <= r as u64)
 }
 
 // The record of an address, v before, by whether it led it before and leads it now.
 #[tactic(auto, using(rules::proofs::Laws::tests))]
-pub fn raised(c: Config, r: u32, before: bool, now: bool, v: u32) -> u32
-    requires { Configured c × (r ≤ last_reading) }
+pub fn raised(c: InRange, r: u32, before: bool, now: bool, v: u32) -> u32
+    requires { r ≤ last_reading }
     ensures { result ≡ raised' c r before now v }
 {
     if now && !before {
-        return v.max(r + c.mclt + 2 * c.skew);
+        return v.max(r + c.config.mclt + 2 * c.config.skew);
     }
     v
 }

@@ -5,47 +5,44 @@
 
 ghost use Rattle.std.specs.Prelude.{◌≡◌, ◌≤◌, ◌<◌, Option};
 ghost use Rattle.rules.specs.Parts.{message};
-ghost use Rattle.types.specs.declared.Outcome.TheVariants.{Unmet};
 ghost use Rattle.types.specs.declared.Reservation.{Reservation};
-ghost use Rattle.rules.specs.Messages.{nothing as nothing', answer, post as post', to_others};
+ghost use Rattle.rules.specs.Messages.{nothing as nothing', post as post', to_others};
 ghost use Rattle.rules.specs.Server.{has_passed, is_free, may_offer, on_discover, lowest_offerable, granted as granted', on_request, reservations_by, freed_if_of, on_renew};
-ghost use Rattle.rules.proofs.Kept.{Configured};
 ghost use Rattle.rules.specs.Ranges.{last_reading};
 
-use outbox::{nothing, post, to_others};
+use outbox::{nothing, post, to_others, unmet};
+use ranges::InRange;
 use types::{
     Binding, Body, Config, Message, OpenWrite, Outbox, Outcome, Pending, Reaction, Reservation,
 };
 
 // Whether the record v has passed by more than 2Δ.
-fn has_passed(c: Config, r: u32, v: u32) -> bool
-    requires { Configured c }
+fn has_passed(c: InRange, r: u32, v: u32) -> bool
     ensures { result ≡ has_passed c r v }
 {
-    (v as u64) + ((2 * c.skew) as u64) < (r as u64)
+    (v as u64) + ((2 * c.config.skew) as u64) < (r as u64)
 }
 
 // Whether an address may be offered: led, not reserved, and its record v has passed.
 #[tactic(auto, using(rules::proofs::Laws::tests), unfolding(rules::specs::Server::is_free))]
-fn may_offer(c: Config, r: u32, leads: bool, reserved: Option<Reservation>, v: u32) -> bool
-    requires { Configured c }
+fn may_offer(c: InRange, r: u32, leads: bool, reserved: Option<Reservation>, v: u32) -> bool
     ensures { result ≡ may_offer c r leads reserved v }
 {
     leads && reserved.is_none() && has_passed(c, r, v)
 }
 
 // The lowest address that may be offered, by what a server leads, reserves and has on record; 0 where there is none.
+// No `Option`: `on_discover` tests address 0 again, where the test failed, so a `None` would get the same answer.
 pub fn lowest_offerable(
-    c: Config,
+    c: InRange,
     r: u32,
     leads: [bool; 32],
     reserved: [Option<Reservation>; 32],
     records: [u32; 32],
 ) -> u32
-    requires { Configured c }
     ensures { result ≡ lowest_offerable c r leads reserved records }
 {
-    (0..c.addresses)
+    (0..c.config.addresses)
         .find(|a| {
             let at = *a as usize;
             may_offer(c, r, leads[at], reserved[at], records[at])
@@ -53,21 +50,10 @@ pub fn lowest_offerable(
         .unwrap_or(0)
 }
 
-// What is kept for an address as it is: a condition is not met, and nothing is sent.
-fn unmet(b: Binding) -> Reaction<Binding>
-    ensures { result ≡ answer b Unmet nothing' }
-{
-    Reaction {
-        after: b,
-        outcome: Outcome::Unmet,
-        outbox: nothing(),
-    }
-}
-
 // Address a, if it may be offered, is reserved for q and offered.
 #[tactic(auto, unfolding(rules::specs::Server::on_discover, rules::specs::Server::offerable, rules::specs::Server::offered))]
 pub fn on_discover(
-    c: Config,
+    c: InRange,
     k: u32,
     r: u32,
     b: Binding,
@@ -75,7 +61,6 @@ pub fn on_discover(
     q: u32,
     a: u32,
 ) -> Reaction<Binding>
-    requires { Configured c }
     ensures { result ≡ on_discover c k r b p q a }
 {
     if !may_offer(c, r, b.leads, b.reserved, b.potlease) {
@@ -122,7 +107,7 @@ fn lease_messages(c: Config, k: u32, p: u32, q: u32, a: u32, l: u32, v: u32) -> 
 // Address a is lent until l, and t was wanted: v is for the others to record.
 #[tactic(auto, unfolding(rules::specs::Server::granted))]
 fn granted(
-    c: Config,
+    c: InRange,
     k: u32,
     b: Binding,
     p: u32,
@@ -131,7 +116,7 @@ fn granted(
     t: u32,
     l: u32,
 ) -> Reaction<Binding>
-    requires { Configured c × (k < c.servers) }
+    requires { k < c.servers }
     ensures { result ≡ granted' c k b p q a t l }
 {
     let v = t.max(l);
@@ -152,7 +137,7 @@ fn granted(
             ..b
         },
         outcome: Outcome::Done,
-        outbox: lease_messages(c, k, p, q, a, l, v),
+        outbox: lease_messages(c.config, k, p, q, a, l, v),
     }
 }
 
@@ -192,7 +177,7 @@ pub fn drop_reservations(n: u32, q: u32, rs: [Option<Reservation>; 32]) -> [Opti
 // A request for address a until t, when the reservations of q are dropped.
 #[tactic(auto, using(rules::proofs::Laws::tests), unfolding(rules::specs::Server::on_request, rules::specs::Server::grantable))]
 pub fn on_request(
-    c: Config,
+    c: InRange,
     k: u32,
     r: u32,
     b: Binding,
@@ -201,11 +186,11 @@ pub fn on_request(
     a: u32,
     t: u32,
 ) -> Reaction<Binding>
-    requires { Configured c × (k < c.servers) × (r ≤ last_reading) }
+    requires { (k < c.servers) × (r ≤ last_reading) }
     ensures { result ≡ on_request c k r b p q a t }
 {
     if b.leads && has_passed(c, r, b.potlease) {
-        return granted(c, k, b, p, q, a, t, r + c.mclt);
+        return granted(c, k, b, p, q, a, t, r + c.config.mclt);
     }
     unmet(b)
 }
@@ -213,7 +198,7 @@ pub fn on_request(
 // A renewal of address a with the old end e.
 #[tactic(auto, using(rules::proofs::Laws::tests), unfolding(rules::specs::Server::on_renew))]
 pub fn on_renew(
-    c: Config,
+    c: InRange,
     k: u32,
     r: u32,
     b: Binding,
@@ -223,11 +208,11 @@ pub fn on_renew(
     e: u32,
     t: u32,
 ) -> Reaction<Binding>
-    requires { Configured c × (k < c.servers) × (r ≤ last_reading) }
+    requires { (k < c.servers) × (r ≤ last_reading) }
     ensures { result ≡ on_renew c k r b p q a e t }
 {
     if b.leads && r <= e {
-        return granted(c, k, b, p, q, a, t, b.lent.max(r + c.mclt));
+        return granted(c, k, b, p, q, a, t, b.lent.max(r + c.config.mclt));
     }
     unmet(b)
 }

@@ -1,10 +1,10 @@
 // What a party sends: an outbox of at most four messages, in the order sent. And what it answers where it sends nothing.
 #![tactic(auto)]
 
-ghost use Rattle.std.specs.Prelude.{◌≡◌, ◌≤◌};
-ghost use Rattle.types.specs.declared.Outcome.TheVariants.{Done};
+ghost use Rattle.std.specs.Prelude.{◌≡◌, ℕ, ◌≤◌, Bool};
+ghost use Rattle.types.specs.declared.Outcome.TheVariants.{Done, Unmet};
 ghost use Rattle.rules.specs.Parts.{message, no_message};
-ghost use Rattle.rules.specs.Messages.{nothing as nothing', answer, post as post', to_each, to_others};
+ghost use Rattle.rules.specs.Messages.{nothing as nothing', answer, post as post', to_servers, to_each, to_others};
 
 use types::{Body, Message, Outbox, Outcome, Reaction};
 
@@ -40,6 +40,17 @@ pub fn done<T>(x: T) -> Reaction<T>
     }
 }
 
+// What it is when a condition is not met: as it was, with nothing sent.
+pub fn unmet<T>(x: T) -> Reaction<T>
+    ensures { result ≡ answer x Unmet nothing' }
+{
+    Reaction {
+        after: x,
+        outcome: Outcome::Unmet,
+        outbox: nothing(),
+    }
+}
+
 // One message more. There is room for four; servers send to the three others and one client.
 pub fn post(o: Outbox, m: Message) -> Outbox
     requires { o.count ≤ 4 }
@@ -53,12 +64,27 @@ pub fn post(o: Outbox, m: Message) -> Outbox
     out
 }
 
-// The message m to each of n servers, in order, and nothing else. None of them is server n, which is left out.
+// After what o holds, the message m to each of n servers that is not left out, in order.
+fn to_servers<F: Fn(u32) -> bool>(left_out: F, m: Message, n: u32, o: Outbox) -> Outbox
+    requires few { (n ≤ 4) × (o.count ≤ 1) }
+    requires callable { F.IsAlwaysCallable left_out }
+    ensures { (g : ℕ → Bool) → ((x : ℕ) (y : Bool) → F.post left_out x y → y ≡ g x) → result ≡ to_servers g (λ j. message m.sender j m.interaction m.body) n o }
+{
+    let mut out = o;
+    for j in 0..n {
+        if !left_out(j) {
+            out = post(out, Message { receiver: j, ..m });
+        }
+    }
+    out
+}
+
+// The message m to each of n servers, in order, and nothing else.
 pub fn to_each(m: Message, n: u32) -> Outbox
     requires { n ≤ 4 }
     ensures { result ≡ to_each (λ j. message m.sender j m.interaction m.body) n nothing' }
 {
-    to_others(n, m, n, nothing())
+    to_servers(|_| false, m, n, nothing())
 }
 
 // After what o holds, the message m to each of n servers other than k, in order.
@@ -66,12 +92,5 @@ pub fn to_others(k: u32, m: Message, n: u32, o: Outbox) -> Outbox
     requires { (n ≤ 4) × (o.count ≤ 1) }
     ensures { result ≡ to_others k (λ j. message m.sender j m.interaction m.body) n o }
 {
-    let mut out = o;
-    for j in 0..n {
-        let itself = j == k;
-        if !itself {
-            out = post(out, Message { receiver: j, ..m });
-        }
-    }
-    out
+    to_servers(|j| j == k, m, n, o)
 }

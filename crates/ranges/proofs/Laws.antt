@@ -22,18 +22,8 @@ waiting_told f e =
     let t : T (numbers_in_range f) = rw e tt in
     leb→le f.waiting 128 (and_r (is_within 1 (last_interaction + 1) f.next) _ (and_r (leb f.time last_time) _ t))
 
-grouped : (b c d e : Bool) → (b and c and d and e) ≡ ((b and c and d) and e)
+pub grouped : (b c d e : Bool) → (b and c and d and e) ≡ ((b and c and d) and e)
 unfolding ◌and◌
 grouped true true d e = refl
 grouped true false d e = refl
 grouped false c d e = refl
-
--- four tests before the others: they held, or one of the last three failed
-module _ (a b c d e : Bool) (h : a ≡ true) where
-  pub past_tests : (b and c and d) ≡ true → (a and b and c and d and e) ≡ e
-  unfolding ◌and◌
-  past_tests k = rw (h, grouped b c d e, k)
-
-  pub test_failed : (b and c and d) ≡ false → (a and b and c and d and e) ≡ false
-  unfolding ◌and◌
-  test_failed k = rw (h, grouped b c d e, k)

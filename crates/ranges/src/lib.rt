@@ -1,30 +1,80 @@
 // Refusal 2: the ranges of a configuration and of a facade handed in.
 #![tactic(auto)]
 
-ghost use Rattle.std.specs.Prelude.{◌≡◌, ◌≤◌, ◌<◌, leb, get_or};
+ghost use Rattle.std.specs.Prelude.{◌≡◌, ◌≤◌, ◌<◌, true, false, leb, get_or, MatchResult};
+ghost use Rattle.types.specs.declared.Refusal.TheVariants.{OutOfRange};
 ghost use Rattle.rules.specs.Conditions.{◌and◌, is_within, all};
 ghost use Rattle.rules.specs.Parts.{server_at, state_at, message_at, offset_at, offset_of, no_server, no_client, no_message, parties};
 ghost use Rattle.rules.specs.Ranges.{config_in_range, interaction_in_range, offset_in_range, reservation_in_range, write_in_range, address_in_range, server_in_range, notice_in_range, state_in_range, is_client, body_in_range, message_in_range, in_range, last_time, after_last, most_waiting};
 ghost use Rattle.rules.proofs.Kept.{Configured};
 
-use arith::{is_within, not_negative};
+use arith::{check, not_negative};
+use std::marker::Model;
 use types::{
     AFTER_LAST, Body, Client, Config, Facade, LAST_END, LAST_READING, LAST_TIME, MOST_WAITING,
-    Message, Pending, Reservation, Server, State,
+    Message, Pending, Refusal, Reservation, Server, State,
 };
 
-// Whether the seven numbers of a configuration are in range.
-#[tactic(auto, using(rules::proofs::Laws::tests), unfolding(rules::specs::Ranges::config_in_range))]
+// A configuration whose seven numbers are in range. A clause sees the configuration.
+#[derive(Clone, Copy)]
+pub struct InRange {
+    pub config: Config,
+}
+
+impl Model for InRange {
+    ghost use Rattle.types.specs.declared.Config.{Config};
+    ghost use Rattle.rules.proofs.Kept.{Configured};
+
+    ghost Value = { Config };
+
+    ghost view = { λ a. a.config };
+
+    ghost invariant = { λ a. Configured a.config };
+
+    ghost inverse = { λ c. record { config = c } };
+}
+
+// Whether the numbers of servers, clients and addresses are in range. At two tests by `contains` in a row the search gives up.
+#[tactic(auto, using(rules::proofs::Laws::tests), unfolding(rules::specs::Conditions::is_within))]
+fn counts_in_range(c: Config) -> bool
+    ensures { result ≡ (is_within 2 4 c.servers and is_within 1 32 c.clients and is_within 1 32 c.addresses) }
+{
+    2 <= c.servers
+        && c.servers <= 4
+        && 1 <= c.clients
+        && c.clients <= 32
+        && 1 <= c.addresses
+        && c.addresses <= 32
+}
+
+// Whether the four times are.
+#[tactic(auto, using(rules::proofs::Laws::tests), unfolding(rules::specs::Conditions::is_within))]
+fn times_in_range(c: Config) -> bool
+    ensures { result ≡ (leb c.skew 1000 and is_within 1 10000 c.detection and is_within 1 1000000 c.mclt and leb c.retention 1000000) }
+{
+    c.skew <= 1000
+        && 1 <= c.detection
+        && c.detection <= 10000
+        && 1 <= c.mclt
+        && c.mclt <= 1000000
+        && c.retention <= 1000000
+}
+
+// Whether the seven numbers of a configuration are in range. In two parts: at twelve tests in a row the search gives up.
+#[tactic(auto, using(rules::proofs::Laws::tests, crate::proofs::Laws::grouped), unfolding(rules::specs::Ranges::config_in_range))]
 pub fn config_in_range(c: Config) -> bool
     ensures { result ≡ config_in_range c }
 {
-    is_within(2, 4, c.servers)
-        && is_within(1, 32, c.clients)
-        && is_within(1, 32, c.addresses)
-        && c.skew <= 1000
-        && is_within(1, 10000, c.detection)
-        && is_within(1, 1000000, c.mclt)
-        && c.retention <= 1000000
+    counts_in_range(c) && times_in_range(c)
+}
+
+// That configuration as one in range, or refusal 2.
+#[tactic(auto, using(crate::proofs::Laws::told))]
+pub fn checked(c: Config) -> Result<InRange, Refusal>
+    ensures { MatchResult result (λ x. (x ≡ c) × (config_in_range c ≡ true)) (λ n. (n ≡ OutOfRange) × (config_in_range c ≡ false)) }
+{
+    check(config_in_range(c), Refusal::OutOfRange)?;
+    Ok(InRange { config: c })
 }
 
 // A stored interaction number q, where n is the next one.
@@ -107,22 +157,20 @@ pub fn state_in_range(c: Config, n: u32, x: State) -> bool
 
 // Whether party p is a client.
 #[tactic(auto, using(rules::proofs::Laws::tests), unfolding(rules::specs::Ranges::is_client))]
-fn is_client(c: Config, p: u32) -> bool
-    requires { Configured c }
+fn is_client(c: InRange, p: u32) -> bool
     ensures { result ≡ is_client c p }
 {
-    c.servers <= p && p < c.servers + c.clients
+    c.config.servers <= p && p < c.config.servers + c.config.clients
 }
 
 // The parties and numbers of a message, as its type has them.
 #[tactic(auto, using(rules::proofs::Laws::tests), unfolding(rules::specs::Ranges::body_in_range))]
-fn body_in_range(c: Config, from: u32, to: u32, body: Body) -> bool
-    requires { Configured c }
+fn body_in_range(c: InRange, from: u32, to: u32, body: Body) -> bool
     ensures { result ≡ body_in_range c from to body }
 {
-    let n = c.addresses;
-    let by_server = from < c.servers;
-    let to_server = to < c.servers;
+    let n = c.config.addresses;
+    let by_server = from < c.config.servers;
+    let to_server = to < c.config.servers;
     let by_client = is_client(c, from);
     let to_client = is_client(c, to);
     match body {
@@ -141,27 +189,26 @@ fn body_in_range(c: Config, from: u32, to: u32, body: Body) -> bool
 }
 
 #[tactic(auto, using(rules::proofs::Laws::tests), unfolding(rules::specs::Ranges::message_in_range))]
-pub fn message_in_range(c: Config, n: u32, m: Message) -> bool
-    requires { Configured c }
+pub fn message_in_range(c: InRange, n: u32, m: Message) -> bool
     ensures { result ≡ message_in_range c n m }
 {
     interaction_in_range(n, m.interaction) && body_in_range(c, m.sender, m.receiver, m.body)
 }
 
-fn offsets_in_range(c: Config, t: u32, os: &[i32; 36]) -> bool
-    requires { Configured c }
+fn offsets_in_range(c: InRange, t: u32, os: &[i32; 36]) -> bool
     ensures { result ≡ all (λ p. offset_in_range c t (offset_of os.now p)) (parties c) }
 {
-    let count = (c.servers + c.clients) as usize;
-    os[..count].iter().all(|o| offset_in_range(c, t, *o))
+    let count = (c.config.servers + c.config.clients) as usize;
+    os[..count].iter().all(|o| offset_in_range(c.config, t, *o))
 }
 
-fn servers_in_range(c: Config, t: u32, n: u32, ss: &[Server; 4]) -> bool
-    requires { Configured c }
+fn servers_in_range(c: InRange, t: u32, n: u32, ss: &[Server; 4]) -> bool
     ensures { result ≡ all (λ k. server_in_range c t n (get_or ss.now k no_server)) c.servers }
 {
-    let count = c.servers as usize;
-    ss[..count].iter().all(|s| server_in_range(c, t, n, *s))
+    let count = c.config.servers as usize;
+    ss[..count]
+        .iter()
+        .all(|s| server_in_range(c.config, t, n, *s))
 }
 
 // The notice time of server k about server j.
@@ -175,36 +222,38 @@ fn notice_in_range(f: &Facade, k: u32, j: u32) -> bool
 
 // The notice times of server k.
 fn row_in_range(f: &Facade, k: u32) -> bool
-    requires { Configured f.now.config × (k < 4) }
+    requires { (f.now.config.servers ≤ 4) × (k < 4) }
     ensures { result ≡ all (notice_in_range f.now k) f.now.config.servers }
 {
     (0..f.config.servers).all(|j| notice_in_range(f, k, j))
 }
 
 fn notices_in_range(f: &Facade) -> bool
-    requires { Configured f.now.config }
+    requires { f.now.config.servers ≤ 4 }
     ensures { result ≡ all (λ k. all (notice_in_range f.now k) f.now.config.servers) f.now.config.servers }
 {
     (0..f.config.servers).all(|k| row_in_range(f, k))
 }
 
-fn clients_in_range(c: Config, n: u32, ys: &[Client; 32]) -> bool
-    requires { Configured c }
+fn clients_in_range(c: InRange, n: u32, ys: &[Client; 32]) -> bool
     ensures { result ≡ all (λ i. state_in_range c n (get_or ys.now i no_client).state) c.clients }
 {
-    let count = c.clients as usize;
-    ys[..count].iter().all(|y| state_in_range(c, n, y.state))
+    let count = c.config.clients as usize;
+    ys[..count]
+        .iter()
+        .all(|y| state_in_range(c.config, n, y.state))
 }
 
-fn messages_in_range(c: Config, n: u32, waiting: u32, ms: &[Message; 128]) -> bool
-    requires { Configured c × (waiting ≤ 128) }
+fn messages_in_range(c: InRange, n: u32, waiting: u32, ms: &[Message; 128]) -> bool
+    requires { waiting ≤ 128 }
     ensures { result ≡ all (λ p. message_in_range c n (get_or ms.now p no_message)) waiting }
 {
     let count = waiting as usize;
     ms[..count].iter().all(|m| message_in_range(c, n, *m))
 }
 
-// The places of a facade: the offsets, servers, notices, clients and messages.
+// The places of a facade: the offsets, servers, notices, clients and messages. Its configuration becomes an `InRange` here, so that
+// it is in range is a clause.
 #[tactic(auto, using(rules::proofs::Laws::tests))]
 fn places_in_range(f: &Facade) -> bool
     requires { Configured f.now.config × (f.now.waiting ≤ 128) }
@@ -214,7 +263,7 @@ fn places_in_range(f: &Facade) -> bool
         and all (λ i. state_in_range f.now.config f.now.next (state_at f.now i)) f.now.config.clients
         and all (λ p. message_in_range f.now.config f.now.next (message_at f.now p)) f.now.waiting) }
 {
-    let c = f.config;
+    let c = InRange { config: f.config };
     offsets_in_range(c, f.time, &f.offsets)
         && servers_in_range(c, f.time, f.next, &f.servers)
         && notices_in_range(f)
@@ -223,21 +272,17 @@ fn places_in_range(f: &Facade) -> bool
 }
 
 // Whether true time, the next interaction and the waiting count are in range.
-#[tactic(auto, using(rules::proofs::Laws::tests))]
+#[tactic(auto, using(rules::proofs::Laws::tests), unfolding(rules::specs::Conditions::is_within))]
 fn numbers_in_range(f: &Facade) -> bool
     ensures { result ≡ (leb f.now.time last_time and is_within 1 after_last f.now.next and leb f.now.waiting most_waiting) }
 {
-    f.time <= LAST_TIME && is_within(1, AFTER_LAST, f.next) && f.waiting <= MOST_WAITING
+    f.time <= LAST_TIME && (1..=AFTER_LAST).contains(&f.next) && f.waiting <= MOST_WAITING
 }
 
 // Whether every number of a facade is in its range.
+#[tactic(auto, using(rules::proofs::Laws::tests, crate::proofs::Laws::told, crate::proofs::Laws::waiting_told, crate::proofs::Laws::grouped), unfolding(rules::specs::Ranges::in_range))]
 pub fn in_range(f: &Facade) -> bool
     ensures { result ≡ in_range f.now }
 {
-    if config_in_range(f.config) {
-        if numbers_in_range(f) {
-            return places_in_range(f);
-        }
-    }
-    false
+    config_in_range(f.config) && numbers_in_range(f) && places_in_range(f)
 }

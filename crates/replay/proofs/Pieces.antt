@@ -4,6 +4,7 @@ use mathlib.Core.Bool.{Bool, true, false, cond}
 use mathlib.Core.List.{List, [], ◌++◌, append-nil, append_assoc}
 use Prim.Native.Nat.{ℕ, zero, suc, ◌+◌, ◌-◌, ◌≤◌, ◌<◌}
 use native.Mathlib.Numerals.{add-one}
+use native.Mathlib.Nat.{zero-add}
 use native.Mathlib.Omega.{arith}
 use lib.Dec.{leb}
 use lib.ListN.{length, take, drop}
@@ -12,7 +13,9 @@ use Rattle.types.specs.declared.Facade.{Facade}
 use Rattle.rules.specs.Answers.{Answer}
 use Rattle.rules.specs.Steps.{step, held_clients}
 use Rattle.rules.proofs.Laws.{cond_case, not_eqb}
-use Rattle.wire.specs.Numbers.{over}
+use Rattle.std.specs.Borrow.{MutBor}
+use Rattle.wire.specs.declared.Page.{Page}
+use Rattle.wire.specs.Pages.{put, blank, HasRoom}
 use Rattle.wire.proofs.Over.{over_length}
 use Rattle.script.specs.Reading.{Found, record_at}
 use Rattle.turns.specs.declared.Progress.{Progress}
@@ -128,20 +131,27 @@ fewer_left s n r x u e q = rw e (go x.ended (λ h. rw q (moves_on s n r.facade r
   go true h = omega (arith, u.placed)
   go false h = omega (arith, u.placed, h refl)
 
--- what is put of it lies within the buffer
-lies_within : (l m v : List ℕ) (e : ℕ) → length l ≡ most_piece → length v ≤ most_piece → e ≡ length v → m ≡ over l 0 v → (e ≤ length m) × (length m ≡ most_piece)
-lies_within l m v e large fits d q =
-    let kept : length m ≡ length l = rw q (over_length l 0 v (omega arith)) in
-    (omega arith, omega arith)
+-- A piece is put from the front of a page on: what is put lies within the buffer, which keeps its length, and is the piece.
+pub record Piece (p m : Page) (v : List ℕ) : Type 0 where
+  pub within : m.end ≤ length m.out.now
+  pub same_length : length m.out.now ≡ length p.out.now
+  pub put : take m.end m.out.now ≡ v
 
--- and is there
-pub front_is_put : (l m v : List ℕ) (e : ℕ) → e ≡ length v → m ≡ over l 0 v → take e m ≡ v
-front_is_put l m v e d q = rw (d, q) (take-append_seam v (drop (0 + length v) l))
+piece_is_put : (p m : Page) (v : List ℕ) → length v ≤ length p.out.now → m ≡ put (blank p) v → Piece p m v
+piece_is_put p m v fits e =
+    let kept : length m.out.now ≡ length p.out.now = rw e (over_length p.out.now 0 v (omega arith)) in
+    record { within = rw e (omega (arith, over_length p.out.now 0 v (omega arith))); same_length = kept; put = rw (e, zero-add) (take-append_seam v (drop (length v) p.out.now)) }
 
-pub first_within : (s l m : List ℕ) (e : ℕ) → length l ≡ most_piece → e ≡ length (first_line s) → m ≡ over l 0 (first_line s) → (e ≤ length m) × (length m ≡ most_piece)
-first_within s l m e large = lies_within l m (first_line s) e large (omega (arith, first_line_short s))
+-- the first line
+pub first_has_room : (s : List ℕ) (p : Page) → p.end ≡ 0 → length p.out.now ≡ most_piece → HasRoom p (first_line s)
+first_has_room s p empty large = record { fits = omega (arith, first_line_short s, large, empty) }
 
-pub next_within : (s l m : List ℕ) (e : ℕ) (r : Progress) → UnderWay s r → length l ≡ most_piece
-    → let v = lines_from piece_turns r.facade s r.place r.number in e ≡ length v → m ≡ over l 0 v → (e ≤ length m) × (length m ≡ most_piece)
-next_within s l m e r u large =
-    lies_within l m (lines_from piece_turns r.facade s r.place r.number) e large (omega (arith, lines_few s u.short piece_turns r.facade r.place r.number u.sound u.counted))
+pub first_put : (s : List ℕ) (b : MutBor (List ℕ)) (m : Page) → length b.now ≡ most_piece → m ≡ put (record { out = b; end = 0 }) (first_line s)
+    → Piece (record { out = b; end = 0 }) m (first_line s)
+first_put s b m large e = piece_is_put (record { out = b; end = 0 }) m (first_line s) (omega (arith, first_line_short s, large)) e
+
+-- and the next piece
+pub next_put : (s : List ℕ) (p m : Page) (r : Progress) → UnderWay s r → length p.out.now ≡ most_piece
+    → m ≡ put (blank p) (lines_from piece_turns r.facade s r.place r.number) → Piece p m (lines_from piece_turns r.facade s r.place r.number)
+next_put s p m r u large e =
+    piece_is_put p m (lines_from piece_turns r.facade s r.place r.number) (omega (arith, large, lines_few s u.short piece_turns r.facade r.place r.number u.sound u.counted)) e

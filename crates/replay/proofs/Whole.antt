@@ -6,7 +6,7 @@ use Prim.Native.Nat.{ℕ, ◌+◌, ◌≤◌, ◌<◌}
 use native.Mathlib.Omega.{arith}
 use lib.Dec.{T, eqb, leb, leb→le, eqb→eq}
 use lib.ListN.{length, length-append}
-use borrow.Author.Tests.{le-leb, lt-leb, ne_eqb, not-false}
+use borrow.Author.Tests.{ne_eqb, not-false}
 use Rattle.std.specs.Prelude.{Result, Ok, Err}
 use Rattle.std.specs.Result.{is_err}
 use Rattle.types.specs.declared.Config.{Config}
@@ -20,28 +20,16 @@ use Rattle.rules.proofs.Ranges.{fresh_sound}
 use Rattle.rules.proofs.Bounds.{unless_high}
 use Rattle.wire.specs.Numbers.{over}
 use Rattle.wire.proofs.Over.{over_length}
+use Rattle.wire.specs.declared.Page.{Page}
+use Rattle.wire.specs.Pages.{put, HasRoom}
+use Rattle.wire.proofs.Pages.{room_first, room_then, put_then}
 use Rattle.script.specs.Reading.{Header, longest, is_script, no_config, config_read, header_in}
 use Rattle.report.specs.Lines.{record_line, facade_line}
-use Rattle.report.proofs.Laws.{Put, record_line_short, facade_line_short}
+use Rattle.report.proofs.Laws.{record_line_short, facade_line_short}
 use Rattle.turns.specs.declared.Progress.{Progress}
 use Rattle.turns.specs.Turns.{before, lines_from, UnderWay}
 use Rattle.replay.specs.Output.{first_line, beginning, output, most_output, output_length, output_into}
 use Rattle.turns.proofs.Lines.{lines_fit}
-
--- a short buffer is left as it is
-pub short_is_left : (s l : List ℕ) → length l < most_output → (0 ≡ output_length s (length l)) × (l ≡ output_into s l)
-unfolding output_length output_into
-short_is_left s l h = rw (lt-leb most_output (length l) h) (refl, refl)
-
--- any other has the output put at its front
-pub all_is_put : (s l : List ℕ) (r : ℕ) {m : List ℕ} → most_output ≤ length l → Put l 0 (output s) r m
-    → (r ≡ output_length s (length l)) × (m ≡ output_into s l)
-unfolding output_length output_into
-all_is_put s l r h p = rw (le-leb most_output (length l) h) (omega arith, p.1)
-
--- the first line is put
-pub first_is_put : (l m s v : List ℕ) (r : ℕ) → v ≡ first_line s → Put l 0 v r m → (r ≡ length (first_line s)) × (m ≡ over l 0 (first_line s))
-first_is_put l m s v r e p = rw (← e) (omega (arith, p.0), p.1)
 
 -- where the header is refused, its number has a line of its own
 pub refused_first : (s : List ℕ) (n : Refusal) → refusal_number n ≡ (header_in s).refusal → record_line 0 (refusal_number n) 0 0 0 ≡ first_line s
@@ -143,23 +131,33 @@ begun_fits s e n =
     let u = begins_under_way s e in
     omega (arith, lines_fit s u.short n (beginning s).facade (beginning s).place (beginning s).number u.sound u.counted, u.short)
 
--- a run r that has begun so, and not ended
-module _ (s : List ℕ) (r : Progress) (e : r ≡ beginning s) where
-  pub has_ended : r.ended ≡ true → output s ≡ first_line s
-  has_ended t = output_ended s (ap (λ (x : Progress). x.ended) (sym e) ∙ t)
+-- where all the output has room, the first line has
+pub first_fits : (s : List ℕ) (p : Page) → HasRoom p (output s) → HasRoom p (first_line s)
+unfolding output
+first_fits s p h = room_first _ _ h
 
-  module _ (t : r.ended ≡ false) where
-    goes : (beginning s).ended ≡ false
-    goes = ap (λ (x : Progress). x.ended) (sym e) ∙ t
+-- a run r that has begun so and ended has put all
+pub all_first : (s : List ℕ) (r : Progress) → r ≡ beginning s → r.ended ≡ true → first_line s ≡ output s
+all_first s r e t = sym (output_ended s (ap (λ (x : Progress). x.ended) (sym e) ∙ t))
 
-    pub has_begun : UnderWay s r
-    has_begun = rw e (begins_under_way s goes)
+-- one that has not ended is under way, with room for the rest, which is then all the output
+module _ (s : List ℕ) (r : Progress) (e : r ≡ beginning s) (t : r.ended ≡ false) where
+  goes : (beginning s).ended ≡ false
+  goes = ap (λ (x : Progress). x.ended) (sym e) ∙ t
 
-    pub has_room : (n : ℕ) → length (lines_from n r.facade s r.place r.number) ≤ 852000
-    has_room n = rw e (begun_fits s goes n)
+  pub is_begun : UnderWay s r
+  is_begun = rw e (begins_under_way s goes)
 
-    pub has_output : output s ≡ first_line s ++ lines_from (length s + 1) r.facade s r.place r.number
-    has_output = rw e (output_begun s goes)
+  both : output s ≡ first_line s ++ lines_from (length s + 1) r.facade s r.place r.number
+  both = rw e (output_begun s goes)
+
+  pub rest_fits : (p : Page) → HasRoom p (output s) → HasRoom (put p (first_line s)) (lines_from (length s + 1) r.facade s r.place r.number)
+  rest_fits p h = room_then _ _ (rw both at h)
+
+  pub all_put : (p : Page) → HasRoom p (output s) → put (put p (first_line s)) (lines_from (length s + 1) r.facade s r.place r.number) ≡ put p (output s)
+  all_put p h = put_then _ _ (rw both at h) ∙ ap (put p) (sym both)
+
+pub ruleset whole = (first_fits, all_first, all_put)
 
 -- the output of any script fits
 output_fits : (s : List ℕ) → length (output s) ≤ most_output
@@ -167,6 +165,10 @@ output_fits s = go (beginning s).ended refl where
   go : (b : Bool) → (beginning s).ended ≡ b → length (output s) ≤ most_output
   go true e = rw (output_ended s e) (omega (arith, first_line_short s))
   go false e = rw (output_begun s e) (omega (arith, length-append (first_line s) (begun (length s + 1) s), first_line_short s, begun_fits s e (length s + 1)))
+
+-- and any buffer of that many bytes has room for it
+pub whole_fits : (s : List ℕ) (p : Page) → p.end ≡ 0 → most_output ≤ length p.out.now → HasRoom p (output s)
+whole_fits s p empty large = record { fits = omega (arith, output_fits s, large, empty) }
 
 -- so what is put lies within the buffer
 pub lies_within : (s l m : List ℕ) (r : ℕ) → r ≡ output_length s (length l) → m ≡ output_into s l → r ≤ length m

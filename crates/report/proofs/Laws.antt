@@ -10,10 +10,10 @@ use lib.ListN.{length, get_or, take, drop, length-append, take-append-drop}
 use Rattle.std.specs.List.{flat_map}
 use Rattle.std.specs.Fmt.{decimal as decimal'}
 use Rattle.std.proofs.lemmas.Fmt.{AppendsLastDigit, decimal_from_appends, length-decimal-le}
-use Rattle.std.proofs.lemmas.Grind.{flat_map-append}
-use Rattle.std.proofs.lemmas.List.{take_more}
 use Rattle.wire.specs.Numbers.{over}
-use Rattle.wire.proofs.Over.{over_then, over_none}
+use Rattle.wire.specs.declared.Page.{Page}
+use Rattle.wire.specs.Pages.{put, HasRoom}
+use Rattle.wire.proofs.Pages.{room_first, next_fits, next_put}
 use Rattle.types.specs.declared.Config.{Config}
 use Rattle.rules.proofs.Laws.{cond_case}
 use Rattle.report.specs.Lines.{digits, decimal, spaced, line_end, record_line, facade_word, facade_line, held_word, held_line}
@@ -79,24 +79,13 @@ pub held_line_short : (n : ℕ) → length (held_line n) ≤ 16
 unfolding held_line
 held_line_short n = simp length-append (omega (arith, digits_few 10 n))
 
--- v was put into l at place i: the place behind it is r, and the buffer is now l₁
-abbrev pub Put : List ℕ → ℕ → List ℕ → ℕ → List ℕ → Type 0
-Put l i v r l₁ = (r ≡ i + length v) × (l₁ ≡ over l i v)
+-- The numbers of a line, one more at a time.
+module _ (p : Page) (ns : List ℕ) (room : HasRoom p (flat_map spaced ns ++ line_end)) (i : ℕ) (h : i < length ns) where
+  pub number_fits : HasRoom (put p (flat_map spaced (take i ns))) (spaced (get_or ns i 0))
+  number_fits = next_fits spaced p ns (room_first _ line_end room) i h
 
--- nothing was put
-pub put_none : (l : List ℕ) (i : ℕ) → Put l i [] i l
-put_none l i = (omega arith, rw (over_none l i))
-
--- one piece put behind another
-pub put_then : (l v w : List ℕ) (i j r : ℕ) {l₁ l₂ : List ℕ} → j ≤ length l → Put l i v j l₁ → Put l₁ j w r l₂ → Put l i (v ++ w) r l₂
-put_then l v w i j r h p q = (simp length-append (omega arith), over_then l v w i j (omega arith) p.0 p.1 q.1)
-
--- one number more of a line
-pub put_more : (l ns : List ℕ) (at i p r : ℕ) {l₁ l₂ : List ℕ} → i < length ns → p ≤ length l → Put l at (flat_map spaced (take i ns)) p l₁
-    → Put l₁ p (spaced (get_or ns i 0)) r l₂ → Put l at (flat_map spaced (take (i + 1) ns)) r l₂
-put_more l ns at i p r h fits first then =
-    rw (take_more ns i 0 h, flat_map-append spaced (take i ns) (get_or ns i 0 ∷ []), append-nil (spaced (get_or ns i 0)))
-    (put_then l (flat_map spaced (take i ns)) (spaced (get_or ns i 0)) at p r fits first then)
+  pub number_more : put (put p (flat_map spaced (take i ns))) (spaced (get_or ns i 0)) ≡ put p (flat_map spaced (take (i + 1) ns))
+  number_more = next_put spaced p ns (room_first _ line_end room) i h
 
 -- Each line is a first piece, and then numbers and its end.
 

@@ -1,100 +1,89 @@
-// Lines of output put into a buffer, as bytes. Each function answers the place behind what it put.
+// Lines of output put on a page, as bytes.
 // No `write!`: its contract does not say which bytes a slice gets, and a line took six times as long (100 for 16 ns).
 #![tactic(auto)]
 
-ghost use Rattle.std.specs.Prelude.{◌≡◌, ◌++◌, ◌+◌, ◌*◌, ◌≤◌, length, flat_map};
+ghost use Rattle.std.specs.Prelude.{◌≡◌, ◌++◌, ◌+◌, ◌≤◌, length, flat_map};
 ghost use Rattle.wire.specs.Numbers.{over};
+ghost use Rattle.wire.specs.Pages.{put, HasRoom};
 ghost use Rattle.report.specs.Lines.{decimal, spaced, line_end, record_line, facade_line, held_line};
 
 use itoa::write_digits;
 use types::Config;
+use wire::Page;
 
-// The decimal digits of n. Many numbers have one digit, which needs no count: without that case a line took 24 ns for 18.
-fn put_digits(out: &mut [u8], at: usize, n: u32) -> usize
-    requires { at + 10 ≤ length out.old }
-    ensures upper_bound { result ≤ at + 10 }
+// The decimal digits of a number that has more than one. Answers the place behind them. It takes no page and is not inlined, so
+// that the page of a run stays in registers: else a refused step and its line took 199 instructions for 159.
+#[inline(never)]
+fn put_long(out: &mut [u8], at: usize, n: u32) -> usize
+    requires { (10 ≤ n) × (at + length (decimal n) ≤ length out.old) }
     ensures value { result ≡ at + length (decimal n) }
     ensures out_after { out.new ≡ over out.old at (decimal n) }
 {
-    if n < 10 {
-        out[at] = b'0' + n as u8;
-        return at + 1;
-    }
     let end = at + n.ilog10() as usize + 1;
     write_digits(u64::from(n), out, end);
     end
 }
 
-// A space and the decimal digits of n.
-fn put_spaced(out: &mut [u8], at: usize, n: u32) -> usize
-    requires { at + 11 ≤ length out.old }
-    ensures upper_bound { result ≤ at + 11 }
-    ensures value { result ≡ at + length (spaced n) }
-    ensures out_after { out.new ≡ over out.old at (spaced n) }
+// The decimal digits of n. Many numbers have one digit, which needs no count: without that case a line took 24 ns for 18.
+fn put_digits(page: &mut Page, n: u32)
+    requires { HasRoom page.old (decimal n) }
+    ensures { page.new ≡ put page.old (decimal n) }
 {
-    out[at] = b' ';
-    put_digits(out, at + 1, n)
+    if n < 10 {
+        page.put_byte(b'0' + n as u8);
+        return;
+    }
+    page.end = put_long(page.out, page.end, n);
+}
+
+// A space and the decimal digits of n.
+#[tactic(auto, using(wire::proofs::Pages::pieces))]
+fn put_spaced(page: &mut Page, n: u32)
+    requires { HasRoom page.old (spaced n) }
+    ensures { page.new ≡ put page.old (spaced n) }
+{
+    page.put_byte(b' ');
+    put_digits(page, n);
 }
 
 // The numbers of a line, each behind a space, and its end.
-fn put_numbers(out: &mut [u8], at: usize, numbers: &[u32]) -> usize
-    requires { at + 11 * length numbers.now + 1 ≤ length out.old }
-    ensures value { result ≡ at + length (flat_map spaced numbers.now ++ line_end) }
-    ensures out_after { out.new ≡ over out.old at (flat_map spaced numbers.now ++ line_end) }
+#[tactic(auto, using(wire::proofs::Pages::pieces, crate::proofs::Laws::number_fits, crate::proofs::Laws::number_more))]
+fn put_numbers(page: &mut Page, numbers: &[u32])
+    requires { HasRoom page.old (flat_map spaced numbers.now ++ line_end) }
+    ensures { page.new ≡ put page.old (flat_map spaced numbers.now ++ line_end) }
 {
-    let mut p = at;
     for n in numbers {
-        p = put_spaced(out, p, *n);
+        put_spaced(page, *n);
     }
-    out[p] = b'\n';
-    p + 1
-}
-
-// The bytes of a word.
-fn put_word(out: &mut [u8], at: usize, word: &[u8]) -> usize
-    requires { at + length word.now ≤ length out.old }
-    ensures value { result ≡ at + length word.now }
-    ensures out_after { out.new ≡ over out.old at word.now }
-{
-    let end = at + word.len();
-    out[at..end].copy_from_slice(word);
-    end
+    page.put_byte(b'\n');
 }
 
 // The line of a record: its number, refusal, outcome, true time and waiting messages.
-pub fn put_record_line(
-    out: &mut [u8],
-    at: usize,
-    k: u32,
-    refusal: u32,
-    outcome: u32,
-    time: u32,
-    waiting: u32,
-) -> usize
-    requires { at + 55 ≤ length out.old }
-    ensures value { result ≡ at + length (record_line k refusal outcome time waiting) }
-    ensures out_after { out.new ≡ over out.old at (record_line k refusal outcome time waiting) }
+#[tactic(auto, using(wire::proofs::Pages::pieces, crate::proofs::Laws::record_is))]
+pub fn put_record_line(page: &mut Page, k: u32, refusal: u32, outcome: u32, time: u32, waiting: u32)
+    requires { HasRoom page.old (record_line k refusal outcome time waiting) }
+    ensures { page.new ≡ put page.old (record_line k refusal outcome time waiting) }
 {
-    let p = put_digits(out, at, k);
-    put_numbers(out, p, &[refusal, outcome, time, waiting])
+    put_digits(page, k);
+    put_numbers(page, &[refusal, outcome, time, waiting]);
 }
 
 // The first line.
-pub fn put_facade_line(out: &mut [u8], at: usize, c: Config) -> usize
-    requires { at + 40 ≤ length out.old }
-    ensures value { result ≡ at + length (facade_line c) }
-    ensures out_after { out.new ≡ over out.old at (facade_line c) }
+#[tactic(auto, using(wire::proofs::Pages::pieces, crate::proofs::Laws::facade_is))]
+pub fn put_facade_line(page: &mut Page, c: Config)
+    requires { HasRoom page.old (facade_line c) }
+    ensures { page.new ≡ put page.old (facade_line c) }
 {
-    let p = put_word(out, at, b"facade");
-    put_numbers(out, p, &[c.servers, c.clients, c.addresses])
+    page.put_word(b"facade");
+    put_numbers(page, &[c.servers, c.clients, c.addresses]);
 }
 
 // The last line.
-pub fn put_held_line(out: &mut [u8], at: usize, n: u32) -> usize
-    requires { at + 16 ≤ length out.old }
-    ensures value { result ≡ at + length (held_line n) }
-    ensures out_after { out.new ≡ over out.old at (held_line n) }
+#[tactic(auto, using(wire::proofs::Pages::pieces, crate::proofs::Laws::held_is))]
+pub fn put_held_line(page: &mut Page, n: u32)
+    requires { HasRoom page.old (held_line n) }
+    ensures { page.new ≡ put page.old (held_line n) }
 {
-    let p = put_word(out, at, b"held");
-    put_numbers(out, p, &[n])
+    page.put_word(b"held");
+    put_numbers(page, &[n]);
 }

@@ -8,19 +8,24 @@ ghost use Rattle.replay.specs.Output.{output};
 use input::read_full;
 use std::io;
 use std::io::{Read, Write};
+use wire::Page;
 
 // Writes the output of a script, and nothing else.
 fn print_run<W: Write>(to: &mut W, s: &[u8]) -> io::Result<()>
     ensures { OnOk result (Appends (W.contents to.old) (W.contents to.new) (output s.now)) }
 {
     let mut out = [0u8; 65536];
-    let (mut r, first) = replay::begin(s, &mut out);
+    let mut page = Page {
+        out: &mut out,
+        end: 0,
+    };
+    let mut r = replay::begin(s, &mut page);
     // what follows a piece that could not be written would not stand behind it
-    to.write_all(&out[..first])?;
+    to.write_all(page.bytes())?;
     // the run itself says when it has ended, so the pieces have no count
     while !r.ended {
-        let next = replay::go_on(s, &mut r, &mut out);
-        to.write_all(&out[..next])?;
+        replay::go_on(s, &mut r, &mut page);
+        to.write_all(page.bytes())?;
     }
     Ok(())
 }

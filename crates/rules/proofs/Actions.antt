@@ -5,48 +5,7 @@ use native.Mathlib.Omega.{arith}
 use borrow.Author.Tests.{ne_eqb, le-leb, lt-leb}
 use Rattle.types.specs.declared.Step.{Step}
 use Rattle.rules.specs.Conditions.{◌and◌, is_within}
-use Rattle.rules.specs.Clock.{as_signed}
-use Rattle.rules.specs.Steps.{pass, fail, return, notice, discover, request, renew, deliver, lose, cleanup, unknown, action_of, is_known}
-
-pub action_pass : (s : Step) → s.kind ≡ 1 → action_of s ≡ pass s.first s.second (as_signed s.third)
-unfolding action_of
-action_pass s e = rw e
-
-pub action_fail : (s : Step) → s.kind ≡ 2 → action_of s ≡ fail s.first
-unfolding action_of
-action_fail s e = rw e
-
-pub action_return : (s : Step) → s.kind ≡ 3 → action_of s ≡ return s.first
-unfolding action_of
-action_return s e = rw e
-
-pub action_notice : (s : Step) → s.kind ≡ 4 → action_of s ≡ notice s.first s.second s.third
-unfolding action_of
-action_notice s e = rw e
-
-pub action_discover : (s : Step) → s.kind ≡ 5 → action_of s ≡ discover s.first
-unfolding action_of
-action_discover s e = rw e
-
-pub action_request : (s : Step) → s.kind ≡ 6 → action_of s ≡ request s.first s.second
-unfolding action_of
-action_request s e = rw e
-
-pub action_renew : (s : Step) → s.kind ≡ 7 → action_of s ≡ renew s.first s.second
-unfolding action_of
-action_renew s e = rw e
-
-pub action_deliver : (s : Step) → s.kind ≡ 8 → action_of s ≡ deliver s.first s.second
-unfolding action_of
-action_deliver s e = rw e
-
-pub action_lose : (s : Step) → s.kind ≡ 9 → action_of s ≡ lose s.first
-unfolding action_of
-action_lose s e = rw e
-
-pub action_cleanup : (s : Step) → s.kind ≡ 10 → action_of s ≡ cleanup s.first
-unfolding action_of
-action_cleanup s e = rw e
+use Rattle.rules.specs.Steps.{unknown, action_of, is_known}
 
 pub action_unknown : (s : Step)
     → (s.kind ≡ 1 → ⊥) → (s.kind ≡ 2 → ⊥) → (s.kind ≡ 3 → ⊥) → (s.kind ≡ 4 → ⊥) → (s.kind ≡ 5 → ⊥)

@@ -2,8 +2,9 @@
 use Prim.Native.Nat.{ℕ, ◌≤◌, ◌<◌}
 use native.Mathlib.Omega.{arith}
 use lib.Dec.{T, leb→le}
-use lib.IntN.{nat_abs}
+use lib.IntN.{ℤ, pos, negsuc, nat_abs}
 use Rattle.types.specs.declared.Facade.{Facade}
+use Rattle.rules.specs.Clock.{clock_reading}
 use Rattle.rules.specs.Parts.{offset_at, clock, parties}
 use Rattle.rules.specs.Ranges.{in_range, offset_in_range}
 use Rattle.rules.proofs.Laws.{and_l}
@@ -29,3 +30,28 @@ module _ (f : Facade) (t : T (in_range f)) where
 
   pub reading_high : (p : ℕ) → p < parties f.config → clock f p ≤ 1000001000
   reading_high p h = omega (arith, sizes, time_high, clock_high f (ranged f t) p h)
+
+-- The world of a facade is in range as far as clocks and tests look at it: its servers, clients and messages may be any.
+pub record WorldInRange (f : Facade) : Type 0 where
+  pub sizes : Configured f.config
+  pub time : f.time ≤ 1000000000
+  pub offset : (p : ℕ) → p < parties f.config → nat_abs (offset_at f p) ≤ 1000
+
+pub world_of_sound : (f : Facade) → T (in_range f) → WorldInRange f
+world_of_sound f t = record { sizes = sizes f t; time = time_high f t; offset = offset_high f t }
+
+module _ (f : Facade) (w : WorldInRange f) where
+  pub world_sizes : Configured f.config
+  world_sizes = w.sizes
+
+  pub world_time : f.time ≤ 1000000000
+  world_time = w.time
+
+  pub world_offset : (p : ℕ) → p < parties f.config → nat_abs (offset_at f p) ≤ 1000
+  world_offset = w.offset
+
+  pub world_reading : (p : ℕ) → p < parties f.config → clock f p ≤ 1000001000
+  world_reading p h = near (offset_at f p) (w.offset p h) where
+    near : (z : ℤ) → nat_abs z ≤ 1000 → clock_reading f.time z ≤ 1000001000
+    near (pos n) h = omega (arith, h, w.time)
+    near (negsuc n) h = omega (arith, w.time)

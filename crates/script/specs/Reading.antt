@@ -3,6 +3,7 @@ use Rattle.std.specs.Prelude.{Bool, not, cond, List, [], ◌∷◌, ℕ, zero, s
 use Rattle.types.specs.declared.Config.{Config}
 use Rattle.types.specs.declared.Refusal.{Refusal}
 use Rattle.types.specs.declared.Refusal.TheVariants.{NoRecord}
+use Rattle.types.specs.Numbers.{refusal_number}
 use Rattle.types.specs.declared.Step.{Step}
 use Rattle.rules.specs.Conditions.{◌and◌, ◌or◌, is_within, unless}
 use Rattle.rules.specs.Ranges.{config_in_range}
@@ -68,6 +69,11 @@ pub record Decoded : Type 0 where
 
 unfoldable pub decode : List ℕ → Decoded
 decode r = cond (is_framed r) (record { refusal = step_refusal (step_in r); step = step_in r }) (record { refusal = 3; step = no_step })
+
+-- as the code answers it: the step, whose refusals are 4 and 5, or refusal 3
+abbrev pub decoded_as : Result Step Refusal → Decoded
+decoded_as (Ok x) = record { refusal = step_refusal x; step = x }
+decoded_as (Err n) = record { refusal = refusal_number n; step = no_step }
 
 -- "that part of the script": the bytes behind the length byte at place p, as many as it says
 abbrev pub part : List ℕ → ℕ → List ℕ

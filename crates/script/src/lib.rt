@@ -4,13 +4,13 @@
 ghost use Rattle.std.specs.Prelude.{◌≡◌, ◌+◌, ◌*◌, ◌≤◌, cond, length, get_or, IfOk};
 ghost use Rattle.types.specs.Numbers.{refusal_of};
 ghost use Rattle.script.specs.Layout.{fields_of, length_of, step_refusal, first_record};
-ghost use Rattle.script.specs.Reading.{config_read, is_script, header_in, field_in, step_in, is_framed, record_at, result_of, records_refusal, verdict as verdict'};
+ghost use Rattle.script.specs.Reading.{config_read, is_script, header_in, field_in, step_in, is_framed, decode as decode', decoded_as, record_at, result_of, records_refusal, verdict as verdict'};
 
 use arith::check;
 use ranges::config_in_range;
 use steps::{action_of, malformed};
 use types::{Config, Refusal, Step};
-use wire::{number_at, wide};
+use wire::number_at;
 
 // The place of the first record, behind the version byte and the seven numbers.
 pub const FIRST_RECORD: usize = 29;
@@ -118,7 +118,7 @@ fn step_in(r: &[u8]) -> Step
     requires { length_of (get_or r.now 0 0) ≤ length r.now }
     ensures { result ≡ step_in r.now }
 {
-    let kind = wide(r[0]);
+    let kind = u32::from(r[0]);
     let n = fields_of(kind);
     Step {
         kind,
@@ -136,14 +136,15 @@ fn is_framed(r: &[u8]) -> bool
     if r.is_empty() {
         return false;
     }
-    let n = fields_of(wide(r[0]));
+    let n = fields_of(u32::from(r[0]));
     n == 0 || r.len() == (1 + 4 * n) as usize
 }
 
 // The step that a record says: refusal 3. What the step itself breaks, 4 or 5, is `step_refusal`.
 #[tactic(auto, using(crate::proofs::Laws::framed_is_long))]
 pub fn decode(r: &[u8]) -> Result<Step, Refusal>
-    ensures { result ≡ cond (is_framed r.now) (Ok (step_in r.now)) (Err Refusal.NoRecord) }
+    ensures step { result ≡ cond (is_framed r.now) (Ok (step_in r.now)) (Err Refusal.NoRecord) }
+    ensures says { decoded_as result ≡ decode' r.now }
 {
     if is_framed(r) {
         Ok(step_in(r))
@@ -161,7 +162,7 @@ pub fn record_at(s: &[u8], p: usize) -> Result<Record, Refusal>
     if end <= p {
         return Err(Refusal::NoRecord);
     }
-    let n = wide(s[p]) as usize;
+    let n = usize::from(s[p]);
     if end - p <= n {
         return Err(Refusal::NoRecord);
     }

@@ -7,31 +7,32 @@ ghost use Rattle.types.specs.declared.Reservation.{Reservation};
 ghost use Rattle.rules.specs.Parts.{binding_at as binding_at', with_binding};
 ghost use Rattle.rules.specs.Ranges.{body_in_range, last_reading};
 ghost use Rattle.rules.specs.Server.{noticed as noticed', cleared_server, after_return, freed_if_old, cleaned as cleaned', is_request, address_of, handled_at, server_receives};
-ghost use Rattle.rules.proofs.Kept.{Configured};
 
 use leading::{may_lead, next_server, raised};
 use lending::{
     drop_reservations, lowest_offerable, on_discover, on_renew, on_request, reservations_by,
 };
-use outbox::{done, nothing};
+use outbox::{done, nothing, unmet};
+use ranges::InRange;
 use types::{Binding, Body, Config, Message, Outcome, Reaction, Reservation, Server};
 use writes::{closed, on_write, on_write_ack};
 
 // A notice: server `about` is dead (0) or alive (1). For each address it is decided anew whether the server leads it.
-pub fn noticed(c: Config, k: u32, r: u32, s: Server, about: u32, says: u32) -> Reaction<Server>
-    requires { Configured c × (k < c.servers) × (r ≤ last_reading) × (about < c.servers) }
+pub fn noticed(c: InRange, k: u32, r: u32, s: Server, about: u32, says: u32) -> Reaction<Server>
+    requires { (k < c.servers) × (r ≤ last_reading) × (about < c.servers) }
     ensures { result ≡ noticed' c k r s about says }
 {
     let mut t = s;
     t.believed[about as usize] = says == 1;
     let b = t.believed;
+    let config = c.config;
     let mut first = 0;
-    for a in 0..c.addresses as usize {
+    for a in 0..config.addresses as usize {
         let before = t.leads[a];
         let now = may_lead(c, k, r, t.returned, before, b, first);
         t.leads[a] = now;
         t.potlease[a] = raised(c, r, before, now, t.potlease[a]);
-        first = next_server(c.servers, first);
+        first = next_server(config.servers, first);
     }
     done(t)
 }
@@ -71,12 +72,15 @@ fn freed_if_old(c: Config, r: u32, x: Option<Reservation>) -> Option<Reservation
 
 // The server with its old reservations dropped.
 #[tactic(auto, unfolding(rules::specs::Server::cleaned))]
-pub fn cleaned(c: Config, r: u32, s: Server) -> Reaction<Server>
-    requires { Configured c }
+pub fn cleaned(c: InRange, r: u32, s: Server) -> Reaction<Server>
     ensures { result ≡ cleaned' c r s }
 {
     done(Server {
-        reserved: reservations_by(|x| freed_if_old(c, r, x), c.addresses, s.reserved),
+        reserved: reservations_by(
+            |x| freed_if_old(c.config, r, x),
+            c.config.addresses,
+            s.reserved,
+        ),
         ..s
     })
 }
@@ -89,9 +93,10 @@ fn is_request(body: Body) -> bool
 }
 
 // The address that a message is about: the one that it names, or for a discover the lowest that may be offered; 0 where there is none.
+// No `Option`: an empty body meets no condition, and a discover is tested again at address 0, where the test failed: a `None`
+// would get the same answer.
 #[tactic(auto, unfolding(rules::specs::Server::address_for))]
-fn address_for(c: Config, r: u32, s: &Server, body: Body) -> u32
-    requires { Configured c }
+fn address_for(c: InRange, r: u32, s: &Server, body: Body) -> u32
     ensures { result ≡ address_of c r s.now body }
 {
     match body {
@@ -107,9 +112,9 @@ fn address_for(c: Config, r: u32, s: &Server, body: Body) -> u32
 }
 
 // A message with this body from party p in interaction q, for address a. One that is for a client has no condition that is met.
-#[tactic(auto, unfolding(rules::specs::Server::handled_at))]
+#[tactic(auto, using(crate::proofs::Laws::ack_sender), unfolding(rules::specs::Server::handled_at))]
 fn handled_at(
-    c: Config,
+    c: InRange,
     k: u32,
     r: u32,
     b: Binding,
@@ -118,7 +123,7 @@ fn handled_at(
     a: u32,
     body: Body,
 ) -> Reaction<Binding>
-    requires { Configured c × (k < c.servers) × (r ≤ last_reading) × T (body_in_range c p k body) }
+    requires { (k < c.servers) × (r ≤ last_reading) × T (body_in_range c p k body) }
     ensures { result ≡ handled_at c k r b p q a body }
 {
     match body {
@@ -126,12 +131,8 @@ fn handled_at(
         Body::Request(_, t) => on_request(c, k, r, b, p, q, a, t),
         Body::Renew(_, e, t) => on_renew(c, k, r, b, p, q, a, e, t),
         Body::Write(_, v) => on_write(k, b, p, q, a, v),
-        Body::WriteAck(_, v) => on_write_ack(c, b, p, q, v),
-        Body::Empty | Body::Offer(_) | Body::Ack(..) => Reaction {
-            after: b,
-            outcome: Outcome::Unmet,
-            outbox: nothing(),
-        },
+        Body::WriteAck(_, v) => on_write_ack(c.config, b, p, q, v),
+        Body::Empty | Body::Offer(_) | Body::Ack(..) => unmet(b),
     }
 }
 
@@ -162,9 +163,9 @@ fn put_binding(s: &mut Server, at: usize, b: Binding)
 }
 
 // A message that comes to the server. A dead one handles nothing.
-#[tactic(auto, unfolding(rules::specs::Server::server_receives, rules::specs::Server::server_handles, rules::specs::Server::dropped))]
-pub fn server_receives(c: Config, k: u32, r: u32, s: Server, m: Message) -> Reaction<Server>
-    requires { Configured c × (k < c.servers) × (r ≤ last_reading) × T (body_in_range c m.sender k m.body) }
+#[tactic(auto, using(rules::proofs::Kept::address_place), unfolding(rules::specs::Server::server_receives, rules::specs::Server::server_handles, rules::specs::Server::dropped))]
+pub fn server_receives(c: InRange, k: u32, r: u32, s: Server, m: Message) -> Reaction<Server>
+    requires { (k < c.servers) × (r ≤ last_reading) × T (body_in_range c m.sender k m.body) }
     ensures { result ≡ server_receives c k r s m }
 {
     if !s.alive {
@@ -178,7 +179,7 @@ pub fn server_receives(c: Config, k: u32, r: u32, s: Server, m: Message) -> Reac
     let at = a as usize;
     let mut t = s;
     if is_request(m.body) {
-        t.reserved = drop_reservations(c.addresses, m.interaction, s.reserved);
+        t.reserved = drop_reservations(c.config.addresses, m.interaction, s.reserved);
     }
     let x = handled_at(
         c,

@@ -9,6 +9,7 @@ use arith::{as_signed, check};
 use types::{Action, LAST_END, Refusal, Step};
 
 // The kind number decides the step; fields follow.
+#[tactic(auto, unfolding(rules::specs::Steps::action_of))]
 pub fn action_of(s: Step) -> Action
     ensures { result ≡ action_of s }
 {

@@ -1,3 +1,2 @@
-pub mod Owed
 pub mod Lines
 pub mod Turns

@@ -1,8 +1,8 @@
-// The turns of a run: each record's step, and its line, put into a lent buffer.
+// The turns of a run: each record's step, and its line, put on a page.
 #![tactic(auto)]
 
-ghost use Rattle.std.specs.Prelude.{◌≡◌, ◌+◌, ◌≤◌, length};
-ghost use Rattle.wire.specs.Numbers.{over};
+ghost use Rattle.std.specs.Prelude.{◌≡◌, length, leb};
+ghost use Rattle.wire.specs.Pages.{put, HasRoom};
 ghost use Rattle.rules.specs.Answers.{answer_of};
 ghost use Rattle.rules.specs.Steps.{held_clients};
 ghost use Rattle.turns.specs.Turns.{answer_line, last_lines, lines_from, progress_from, UnderWay};
@@ -11,6 +11,7 @@ use facade::{held_clients, take_step};
 use report::{put_held_line, put_record_line};
 use script::record_at;
 use types::{Facade, Outcome, Refusal};
+use wire::Page;
 
 // A run under way.
 #[derive(Clone, Copy)]
@@ -24,59 +25,48 @@ pub struct Progress {
 }
 
 // The line of record k, by the result of its step and the facade then.
-fn put_answer_line(
-    out: &mut [u8],
-    at: usize,
-    k: u32,
-    x: Result<Outcome, Refusal>,
-    f: &Facade,
-) -> usize
-    requires { at + 55 ≤ length out.old }
-    ensures value { result ≡ at + length (answer_line k (answer_of x f.now)) }
-    ensures out_after { out.new ≡ over out.old at (answer_line k (answer_of x f.now)) }
+fn put_answer_line(page: &mut Page, k: u32, x: Result<Outcome, Refusal>, f: &Facade)
+    requires { HasRoom page.old (answer_line k (answer_of x f.now)) }
+    ensures { page.new ≡ put page.old (answer_line k (answer_of x f.now)) }
 {
     match x {
-        Ok(n) => put_record_line(out, at, k, 0, u32::from(n), f.time, f.waiting),
-        Err(n) => put_record_line(out, at, k, u32::from(n), 0, f.time, f.waiting),
+        Ok(n) => put_record_line(page, k, 0, u32::from(n), f.time, f.waiting),
+        Err(n) => put_record_line(page, k, u32::from(n), 0, f.time, f.waiting),
     }
 }
 
 // The lines that end a run at record k are put: that of the record, unless the script is over, and the last one.
-fn put_last_lines(out: &mut [u8], at: usize, finished: bool, k: u32, f: &Facade) -> usize
-    requires { (at + 55 ≤ length out.old) × (k ≤ 99999) × (f.now.waiting ≤ 128) }
-    ensures value { result ≡ at + length (last_lines finished k f.now.time f.now.waiting (held_clients f.now)) }
-    ensures out_after { out.new ≡ over out.old at (last_lines finished k f.now.time f.now.waiting (held_clients f.now)) }
+#[tactic(auto, using(wire::proofs::Pages::pieces))]
+fn put_last_lines(page: &mut Page, finished: bool, k: u32, f: &Facade)
+    requires { HasRoom page.old (last_lines finished k f.now.time f.now.waiting (held_clients f.now)) }
+    ensures { page.new ≡ put page.old (last_lines finished k f.now.time f.now.waiting (held_clients f.now)) }
 {
-    let n = held_clients(f);
-    if finished {
-        return put_held_line(out, at, n);
+    if !finished {
+        put_record_line(page, k, 3, 0, f.time, f.waiting);
     }
-    let next = put_record_line(out, at, k, 3, 0, f.time, f.waiting);
-    put_held_line(out, next, n)
+    put_held_line(page, held_clients(f));
 }
 
-// The lines of so many turns of the run r are put from place `start` on. Answers the place behind them.
-pub fn put_turns(s: &[u8], r: &mut Progress, out: &mut [u8], start: usize, most: u32) -> usize
-    requires { UnderWay s.now r.old × (start + length (lines_from most r.old.facade s.now r.old.place r.old.number) + 55 ≤ length out.old) }
+// The lines of so many turns of the run r are put.
+pub fn put_turns(s: &[u8], r: &mut Progress, page: &mut Page, most: u32)
+    requires { UnderWay s.now r.old × HasRoom page.old (lines_from most r.old.facade s.now r.old.place r.old.number) }
     ensures progress_after { (r.new ≡ progress_from most r.old.facade s.now r.old.place r.old.number) × UnderWay s.now r.new }
-    ensures value { result ≡ start + length (lines_from most r.old.facade s.now r.old.place r.old.number) }
-    ensures out_after { out.new ≡ over out.old start (lines_from most r.old.facade s.now r.old.place r.old.number) }
+    ensures page_after { page.new ≡ put page.old (lines_from most r.old.facade s.now r.old.place r.old.number) }
 {
-    let mut at = start;
     r.ended = false;
     for i in 0..most {
         match record_at(s, r.place) {
             Err(_) => {
                 r.ended = true;
-                return put_last_lines(out, at, s.len() <= r.place, r.number, &r.facade);
+                put_last_lines(page, s.len() <= r.place, r.number, &r.facade);
+                return;
             }
             Ok(d) => {
                 let x = take_step(&mut r.facade, d.step);
-                at = put_answer_line(out, at, r.number, x, &r.facade);
+                put_answer_line(page, r.number, x, &r.facade);
                 r.place = d.next;
                 r.number += 1;
             }
         }
     }
-    at
 }

@@ -1,2 +1,3 @@
 pub mod Over
 pub mod Numbers
+pub mod Pages

@@ -1,7 +1,7 @@
 -- Bytes put over a buffer: what is put is there, what is not stays, and what is put after it goes on behind it.
 use mathlib.Core.Path.{◌≡◌, sym, ap, ◌∙◌}
 use mathlib.Core.List.{List, [], ◌∷◌, ◌++◌, append_assoc, append-nil}
-use Prim.Native.Nat.{ℕ, suc, ◌+◌, ◌≤◌}
+use Prim.Native.Nat.{ℕ, ◌+◌, ◌≤◌}
 use native.Mathlib.Nat.{add-zero, add_assoc}
 use native.Mathlib.Omega.{arith}
 use lib.ListN.{length, set, take, drop, length-append, length-drop, take-append-drop}
@@ -13,14 +13,6 @@ over_none l i = simp (add-zero, append-nil, take-append-drop)
 
 pub over_one : (l : List ℕ) (i x : ℕ) → i + 1 ≤ length l → set l i x ≡ over l i (x ∷ [])
 over_one l i x h = sets-eq (x ∷ []) l i h
-
-pub over_four : (l : List ℕ) (i a b c d : ℕ) → i + 4 ≤ length l
-    → set (set (set (set l i a) (i + 1) b) (i + 2) c) (i + 3) d ≡ over l i (a ∷ b ∷ c ∷ d ∷ [])
-over_four l i a b c d h =
-    let e₁ : i + 1 ≡ suc i = omega arith in
-    let e₂ : i + 2 ≡ suc (suc i) = omega arith in
-    let e₃ : i + 3 ≡ suc (suc (suc i)) = omega arith in
-    rw (e₁, e₂, e₃) (sets-eq (a ∷ b ∷ c ∷ d ∷ []) l i h)
 
 module _ (l : List ℕ) (i : ℕ) (v : List ℕ) (fits : i + length v ≤ length l) where
   front : length (take i l ++ v) ≡ i + length v

@@ -1,17 +1,12 @@
-// Numbers as bytes, and bytes put into a buffer.
+// Numbers as bytes, and bytes put into a lent buffer.
 #![tactic(auto)]
 
-ghost use Rattle.std.specs.Prelude.{◌≡◌, ◌+◌, ◌≤◌, length};
-ghost use Rattle.wire.specs.Numbers.{number_at, bytes_of, complement as complement', over};
+ghost use Rattle.std.specs.Prelude.{◌≡◌, [], ◌∷◌, ◌+◌, ◌≤◌, length, take};
+ghost use Rattle.wire.specs.Numbers.{number_at, bytes_of, complement as complement'};
+ghost use Rattle.wire.specs.Pages.{put, HasRoom};
 
-// A byte as a number.
-pub fn wide(x: u8) -> u32
-    ensures { (result ≡ x) × (result ≤ 255) }
-{
-    u32::from(x)
-}
-
-// The number in the four bytes of s from place i on, the most significant first.
+// The number in the four bytes of s from place i on, the most significant first. With the place, as the definition of a record's
+// fields reads by place.
 pub fn number_at(s: &[u8], i: usize) -> u32
     requires { i + 4 ≤ length s.now }
     ensures { result ≡ number_at s.now i }
@@ -19,17 +14,53 @@ pub fn number_at(s: &[u8], i: usize) -> u32
     u32::from_be_bytes([s[i], s[i + 1], s[i + 2], s[i + 3]])
 }
 
-// The four bytes of x are put into s from place i on.
-pub fn put_number(s: &mut [u8], i: usize, x: u32)
-    requires { i + 4 ≤ length s.old }
-    ensures { s.new ≡ over s.old i (bytes_of x) }
-{
-    s[i..i + 4].copy_from_slice(&x.to_be_bytes());
-}
-
 // A signed number in two's complement. `arith::as_signed` is the way back.
 pub fn complement(e: i32) -> u32
     ensures { result ≡ complement' e }
 {
     e.cast_unsigned()
+}
+
+// A lent buffer, and how much of it is put. What is put next goes behind that.
+#[derive(Drop)]
+pub struct Page<'a> {
+    pub out: &'a mut [u8],
+    pub end: usize,
+}
+
+impl Page<'_> {
+    // The bytes that are put.
+    pub fn bytes(&self) -> &[u8]
+        requires { self.now.end ≤ length self.now.out.now }
+        ensures { result.now ≡ take self.now.end self.now.out.now }
+    {
+        &self.out[..self.end]
+    }
+
+    #[tactic(auto, using(crate::proofs::Over::over_one))]
+    pub fn put_byte(&mut self, x: u8)
+        requires { HasRoom self.old (x ∷ []) }
+        ensures { self.new ≡ put self.old (x ∷ []) }
+    {
+        self.out[self.end] = x;
+        self.end += 1;
+    }
+
+    // The bytes of a word.
+    pub fn put_word(&mut self, word: &[u8])
+        requires { HasRoom self.old word.now }
+        ensures { self.new ≡ put self.old word.now }
+    {
+        let end = self.end + word.len();
+        self.out[self.end..end].copy_from_slice(word);
+        self.end = end;
+    }
+
+    // The four bytes of a number.
+    pub fn put_number(&mut self, x: u32)
+        requires { HasRoom self.old (bytes_of x) }
+        ensures { self.new ≡ put self.old (bytes_of x) }
+    {
+        self.put_word(&x.to_be_bytes());
+    }
 }

@@ -6,7 +6,7 @@ ghost use Rattle.std.specs.Prelude.{◌≡◌, false, ◌≤◌, ◌<◌, get_or
 ghost use Rattle.rules.specs.Conditions.{all};
 ghost use Rattle.rules.specs.Server.{on_write, matches_write, acknowledged as acknowledged', on_write_ack, closed as closed'};
 
-use outbox::{nothing, post};
+use outbox::{done, nothing, post, unmet};
 use types::{Binding, Body, Config, Message, OpenWrite, Outcome, Pending, Reaction};
 
 #[tactic(auto, unfolding(rules::specs::Server::on_write))]
@@ -91,17 +91,9 @@ pub fn on_write_ack(c: Config, b: Binding, p: u32, q: u32, v: u32) -> Reaction<B
 {
     let met = b.leads && matches_write(q, v, b.write.pending);
     if !met {
-        return Reaction {
-            after: b,
-            outcome: Outcome::Unmet,
-            outbox: nothing(),
-        };
+        return unmet(b);
     }
     let mut acked = b.write.acked;
     acked[p as usize] = true;
-    Reaction {
-        after: acknowledged(c, b, q, v, acked),
-        outcome: Outcome::Done,
-        outbox: nothing(),
-    }
+    done(acknowledged(c, b, q, v, acked))
 }

@@ -8,7 +8,7 @@ use Rattle.std.specs.Option.{is_some}
 use Rattle.types.specs.declared.Refusal.TheVariants.{Full}
 use Rattle.rules.proofs.Sizes.{sizes, next_high, waiting_high}
 use Rattle.cable.specs.Exchange.{room_for}
-use Rattle.facade.proofs.Laws.{few_asked, asks_is, taken_high, put_in, left_out}
+use Rattle.facade.proofs.Laws.{few_asked, asks_is, taken_high, has_room_left, is_full}
 use Rattle.facade.proofs.ask.Goals as goal
 use Rattle.facade.proofs.ask.Goals.{After-asked-x}
 
@@ -22,7 +22,7 @@ fits-requires c = (waiting_high _ c.requires.0, few (goal.at.fits-requires c).Af
 pub returns-in_err-fits : goal.returns-in_err-fits
 returns-in_err-fits c =
     let full : c.from_residual.result ≡ Err Full = search rules in
-    rw full (left_out _ _ _ _ _ (asks_is _ _ _ _ c.asked-x.ensures) refl (search rules))
+    rw full (is_full _ _ _ _ _ (asks_is _ _ _ _ c.asked-x.ensures) refl (search rules))
 
 pub bounds-f-i : goal.bounds-f-i
 bounds-f-i c = omega (arith, c.requires.1, sizes _ c.requires.0)
@@ -39,4 +39,4 @@ send_all-requires c = (rw c.take_from.ensures (taken_high _ c.args.taken (waitin
 pub returns : goal.returns
 returns c =
     let left : room_for c.args.f.now.waiting (is_some c.args.taken) c.asked-x.result.outbox.count ≡ true = search rules in
-    rw (c.send_all.ensures, c.take_from.ensures, c.next_after-f.ensures) (put_in _ _ _ _ _ (asks_is _ _ _ _ c.asked-x.ensures) refl left)
+    rw (c.send_all.ensures, c.take_from.ensures, c.next_after-f.ensures) (has_room_left _ _ _ _ _ (asks_is _ _ _ _ c.asked-x.ensures) refl left)

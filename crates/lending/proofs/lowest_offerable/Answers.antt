@@ -1,4 +1,4 @@
-use mathlib.Core.Path.{◌∙◌}
+use mathlib.Core.Path.{◌≡◌, ◌∙◌}
 use Rattle.std.proofs.Common.{rules}
 use borrow.Author.Tests.{tests}
 use Rattle.rules.specs.Server.{offerable_at, lowest_offerable}
@@ -8,4 +8,5 @@ use Rattle.lending.proofs.lowest_offerable.Goals as goal
 pub returns : goal.returns
 unfolding lowest_offerable
 returns c = let a = c.args in
-    c.unwrap_or.ensures ∙ lowest_below (offerable_at a.c a.r a.leads a.reserved a.records) _ _ _ c.find.ensures.ran (λ x b q k. search (rules, tests))
+    let e : c.c.inside.config ≡ a.c = c.c.view_is in
+    rw e at (c.unwrap_or.ensures ∙ lowest_below (offerable_at a.c a.r a.leads a.reserved a.records) _ _ _ c.find.ensures.ran (λ x b q k. search (rules, tests)))

@@ -1,5 +1,5 @@
--- The output of a piece lies within the buffer, each piece that does not end the run moves on in the script, and what was written
--- and what the run prints from here on are the output.
+-- The page keeps its length, each piece that does not end the run moves on in the script, and what was written and what the run
+-- prints from here on are the output.
 use mathlib.Core.Path.{◌≡◌}
 use mathlib.Core.Bool.{false}
 use mathlib.Core.List.{List, ◌++◌}
@@ -15,7 +15,7 @@ abbrev pub invariant-loop-r : goal.invariant-loop-r
 invariant-loop-r g l =
     let contents = g.W.Write.contents in
     record {
-      room : length l.out ≡ 65536;
+      room : length l.page.out.now ≡ 65536;
       under_way : l.r.ended ≡ false → UnderWay l.s l.r;
       written : (w : List ℕ) × Appends (contents l.fn.to) (contents l.to) w × (w ++ rest l.s l.r ≡ output l.s);
     }

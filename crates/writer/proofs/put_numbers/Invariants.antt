@@ -1,14 +1,10 @@
 use mathlib.Core.Path.{◌≡◌}
-use Prim.Native.Nat.{◌+◌, ◌*◌}
-use lib.ListN.{length, take}
+use lib.ListN.{take}
 use Rattle.std.specs.List.{flat_map}
-use Rattle.wire.specs.Numbers.{bytes_of, over}
+use Rattle.wire.specs.Numbers.{bytes_of}
+use Rattle.wire.specs.Pages.{put}
 use Rattle.writer.proofs.put_numbers.Given as goal
 
--- the numbers so far are put, and p is the place behind them
+-- the numbers so far are put
 abbrev pub invariant-loop-x : goal.invariant-loop-x
-invariant-loop-x l = record {
-  place : l.p ≡ l.at + 4 * l.x-index;
-  same_length : length l.out ≡ length l.initial.out;
-  put : l.out ≡ over l.initial.out l.at (flat_map bytes_of (take l.x-index l.numbers));
-}
+invariant-loop-x l = l.page ≡ put l.initial.page (flat_map bytes_of (take l.x-index l.numbers))
