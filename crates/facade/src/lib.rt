@@ -71,7 +71,7 @@ fn fits(f: &Facade, taken: Option<u32>, sent: &Outbox) -> Result<(), Refusal>
 // only a whole step, which tests that one is left, keeps it.
 
 // Server k is told of an event.
-#[tactic(auto, using(rules::proofs::Sizes::world_of_sound))]
+#[tactic(auto, using(rules::proofs::Sizes::world_of_sound, rules::proofs::Sizes::sizes, rules::proofs::Sizes::waiting_high, crate::proofs::Laws::few_served, crate::proofs::Laws::taken_high))]
 fn serve(f: &mut Facade, taken: Option<u32>, k: u32, e: ServerEvent) -> Result<Outcome, Refusal>
     requires { T (in_range f.old) × (k < f.old.config.servers) × T (event_in_range f.old.config k e) × IfSome taken (λ p. p < f.old.waiting) }
     ensures { answer_of result f.new ≡ unless_full f.old (enacted (taken_from f.old taken) (Serves k e)) }
@@ -86,7 +86,7 @@ fn serve(f: &mut Facade, taken: Option<u32>, k: u32, e: ServerEvent) -> Result<O
 }
 
 // Client i is told of an event.
-#[tactic(auto, using(rules::proofs::Sizes::world_of_sound))]
+#[tactic(auto, using(rules::proofs::Sizes::world_of_sound, rules::proofs::Sizes::sizes, rules::proofs::Sizes::next_high, rules::proofs::Sizes::waiting_high, crate::proofs::Laws::few_asked, crate::proofs::Laws::taken_high))]
 fn ask(f: &mut Facade, taken: Option<u32>, i: u32, e: ClientEvent) -> Result<Outcome, Refusal>
     requires { T (in_range f.old) × (i < f.old.config.clients) × IfSome taken (λ p. p < f.old.waiting) }
     ensures { answer_of result f.new ≡ unless_full f.old (enacted (taken_from f.old taken) (Asks i e)) }
