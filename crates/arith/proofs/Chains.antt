@@ -1,6 +1,6 @@
 -- What chains over the first numbers and places give, by `all`, `counted`, `lowest` and `filled` of the rules.
 use mathlib.Core.Bool.{Bool, true, false, cond, ◌&&◌}
-use mathlib.Core.List.{List, ◌++◌}
+use mathlib.Core.List.{List, [], ◌∷◌, ◌++◌}
 use mathlib.Core.Path.{◌≡◌, refl, sym, ap, ◌∙◌}
 use Prim.Native.Nat.{ℕ, zero, suc, ◌+◌, ◌-◌, ◌≤◌, ◌<◌, min}
 use native.Mathlib.Decide.{dec_lt, ℕ_discrete}
@@ -12,20 +12,20 @@ use denote.Ref.{Bor}
 use lib.Dec.{ltb}
 use lib.ListN.{length, get_or, take, drop, set, take-append-drop, get_or-append}
 use Rattle.std.specs.Fn.{Called, CalledAt}
-use Rattle.std.specs.Iterator.Adapters.{take_source, take_count, take_steps, filter_source, filter_callee, filter_steps}
+use Rattle.std.specs.Iterator.Adapters.{take_source, take_count, take_steps, filter_source, filter_callee, filter_steps, enumerate_source, enumerate_count, enumerate_steps}
 use Rattle.std.specs.Iterator.{YieldsThen, Drains}
-use Rattle.std.specs.List.{range_with_len, list_all, FoldsTo, filter}
+use Rattle.std.specs.List.{range_with_len, list_all, FoldsTo, filter, enumerate_from}
 use Rattle.std.specs.Prelude.{Option, Some, None, MatchOption, unwrap_or}
 use Rattle.std.specs.Slice.Iter.{iter_rest}
 use Rattle.std.specs.declared.ops.Range.{Range}
 use Rattle.std.specs.declared.slice.Iter.{Iter}
 use Rattle.std.proofs.iter.Yields.{nat_range_steps, fronts}
-use Rattle.std.proofs.lemmas.Iterator.Consumers.{YieldsList-from_filter, count_from_yields_List}
+use Rattle.std.proofs.lemmas.Iterator.Consumers.{YieldsList-from_filter, YieldsList-from_enumerate, count_from_yields_List}
 use Rattle.std.proofs.lemmas.Iterator.Search.{all_from_yields_List}
 use Rattle.std.proofs.lemmas.Iterator.{first_from_Range, YieldsList-from_range, YieldsList-from_slice, YieldsList-from_take}
 use Rattle.std.proofs.lemmas.List.Filters.{length-filter_more}
 use Rattle.std.proofs.lemmas.List.Folds.{list_all_more}
-use Rattle.std.proofs.lemmas.List.{set-append_left, take_min}
+use Rattle.std.proofs.lemmas.List.{set-append_left, take_min, length-take-le, get_or-take}
 use Rattle.rules.proofs.Laws.{filled_ahead}
 use Rattle.rules.specs.Conditions.{◌and◌, all, counted, lowest, filled}
 
@@ -80,6 +80,27 @@ pub all_in_first : {A F : Type 0} {g : Mut F (Bor A × Unit {0}) Bool} {s u : It
     → (ys : List (Bor A)) × (o : Option (Bor A)) × (j : F) × YieldsThen fronts s ys o u × FoldsTo (λ a x b. Called g a (x, tt) true b) f ys j × MatchOption o (r ≡ true) (λ x. (r ≡ false) × ((h : F) × Called g j (x, tt) false h))
     → ((x : Bor A) (b : Bool) (q : F) → Called g f (x, tt) b q → (q ≡ f) × (b ≡ test x.now)) → r ≡ all (λ k. test (get_or xs k d)) n
 all_in_first test xs d n h e a k = all_from_yields_List test _ _ _ a (YieldsList-from_slice _ e) k ∙ all_taken test xs d n h
+
+-- `xs[..n].iter().enumerate().all(f)`.
+
+-- the places of ys, numbered from a on, where test gives what p gives of the number
+module _ {A : Type 0} (test : ℕ → A → Bool) (p : ℕ → Bool) (d : A) where
+  all_numbered : (ys : List A) (a : ℕ) → ((i k : ℕ) → i < length ys → k ≡ a + i → test k (get_or ys i d) ≡ p k)
+      → list_all (λ y. test y.0 y.1) (enumerate_from a ys) ≡ list_all p (range_with_len a (length ys))
+  all_numbered [] a h = refl
+  all_numbered (y ∷ ys) a h = rw (h 0 a (omega arith) (omega arith), all_numbered ys (a + 1) (λ i k b e. h (suc i) k (omega arith) (omega arith))) refl
+
+-- where f answers `test` of a place's number and what it is shown
+pub all_numbered_first : {A F : Type 0} {g : Mut F ((ℕ × Bor A) × Unit {0}) Bool} {s u : _} {f : F} {r : Bool} (test : ℕ → A → Bool) (xs : List A) (d : A) (n : ℕ)
+    → n ≤ length xs → iter_rest (enumerate_source s) ≡ take n xs → enumerate_count s ≡ 0
+    → (ys : List (ℕ × Bor A)) × (o : Option (ℕ × Bor A)) × (j : F) × YieldsThen (enumerate_steps fronts) s ys o u × FoldsTo (λ a x b. Called g a (x, tt) true b) f ys j × MatchOption o (r ≡ true) (λ x. (r ≡ false) × ((h : F) × Called g j (x, tt) false h))
+    → ((x : ℕ × Bor A) (b : Bool) (q : F) → Called g f (x, tt) b q → (q ≡ f) × (b ≡ test x.0 x.1.now)) → r ≡ all (λ k. test k (get_or xs k d)) n
+all_numbered_first test xs d n h e z a k =
+    let p : ℕ → Bool = λ i. test i (get_or xs i d) in
+    let m : length (take n xs) ≡ n = length-take-le n xs h in
+    all_from_yields_List (λ y. test y.0 y.1) _ _ _ a (YieldsList-from_enumerate (YieldsList-from_slice _ e) z) k
+    ∙ all_numbered test p d (take n xs) 0 (λ i j b q. let w : j ≡ i = omega arith in rw (w, get_or-take n xs i d (omega arith)) refl)
+    ∙ rw m (all_listed p n)
 
 -- `xs.iter().take(n).filter(f).count()`.
 

@@ -1,4 +1,6 @@
-// The waiting messages of a facade, in the order sent: one is taken out, and what a step sends waits behind the rest.
+// The waiting messages of a facade, in the order sent: one is taken out, and what a step sends waits behind the rest. That at most
+// 128 wait, that a position is one of theirs and that at most four are sent stand in clauses: each is so of a facade and an outbox
+// as they are then, and one handed in may count anything.
 #![tactic(auto)]
 
 ghost use Rattle.std.specs.Prelude.{◌≡◌, ◌≤◌, ◌<◌, T, IfSome};
@@ -44,7 +46,9 @@ fn take_out(ms: &mut [Message; 128], p: u32, n: u32)
     ms[end - 1] = none;
 }
 
-// What o holds waits behind the w messages that wait. What there is no room for is dropped; refusal 13 stands before.
+// What o holds waits behind the w messages that wait. What there is no room for is dropped; refusal 13 stands before. Each message
+// has its own test: `copy_from_slice` of those that find room takes two bounds more, for the first place and for how many fit, and
+// over `skip` and `zip` the check leaves three goals to prove.
 #[tactic(auto, using(crate::proofs::Laws::sent_more, crate::proofs::Laws::sent_full), unfolding(rules::specs::Messages::sent_behind))]
 fn put_behind(ms: &mut [Message; 128], w: u32, o: &Outbox)
     requires { o.now.count ≤ 4 }

@@ -1,14 +1,14 @@
-// What a client does, on its own value: c is the configuration, i its number, r its clock reading, x its state. And how many hold.
+// What a client does, on its own value: r is its clock reading, x its state. And how many hold.
 #![tactic(auto)]
 
-ghost use Rattle.std.specs.Prelude.{◌≡◌, ◌<◌};
+ghost use Rattle.std.specs.Prelude.{◌≡◌};
 ghost use Rattle.types.specs.declared.Outcome.TheVariants.{Unmet};
 ghost use Rattle.rules.specs.Messages.{nothing as nothing'};
 ghost use Rattle.rules.specs.Client.{is_offered, is_holding, reply as reply', broadcast as broadcast', lapsed as lapsed', discovers as discovers', requests as requests', renews as renews', asks_with, on_offer, expects as expects', on_ack, client_receives};
 ghost use Rattle.rules.specs.Steps.{held_among};
 
 use outbox::{nothing, to_each, unmet};
-use ranges::InRange;
+use ranges::ClientOf;
 use types::{Body, Client, Config, Message, Outbox, Outcome, Reaction, State};
 
 // A client in state x with outcome n, and what it sends.
@@ -30,17 +30,17 @@ fn unmoved(x: State) -> Reaction<Client>
 }
 
 // The same message to each server.
-fn broadcast(c: InRange, i: u32, q: u32, body: Body) -> Outbox
-    requires { i < c.clients }
-    ensures { result ≡ broadcast' c i q body }
+fn broadcast(who: ClientOf, q: u32, body: Body) -> Outbox
+    ensures { result ≡ broadcast' who.config who.number q body }
 {
+    let servers = who.config.servers;
     let m = Message {
-        sender: c.config.servers + i,
+        sender: servers + who.number,
         receiver: 0,
         interaction: q,
         body,
     };
-    to_each(m, c.config.servers)
+    to_each(m, servers)
 }
 
 #[tactic(auto, unfolding(rules::specs::Client::is_offered))]
@@ -70,9 +70,8 @@ pub fn lapsed(r: u32, x: State) -> State
 
 // A discover with the new interaction q.
 #[tactic(auto, unfolding(rules::specs::Client::discovers))]
-pub fn discovers(c: InRange, i: u32, x: State, q: u32) -> Reaction<Client>
-    requires { i < c.clients }
-    ensures { result ≡ discovers' c i x q }
+pub fn discovers(who: ClientOf, x: State, q: u32) -> Reaction<Client>
+    ensures { result ≡ discovers' who.config who.number x q }
 {
     if is_holding(x) {
         return unmoved(x);
@@ -80,19 +79,18 @@ pub fn discovers(c: InRange, i: u32, x: State, q: u32) -> Reaction<Client>
     reply(
         State::Asking(q),
         Outcome::Done,
-        broadcast(c, i, q, Body::Discover),
+        broadcast(who, q, Body::Discover),
     )
 }
 
 // A request with the wanted end t.
 #[tactic(auto, unfolding(rules::specs::Client::requests))]
-pub fn requests(c: InRange, i: u32, x: State, t: u32) -> Reaction<Client>
-    requires { i < c.clients }
-    ensures { result ≡ requests' c i x t }
+pub fn requests(who: ClientOf, x: State, t: u32) -> Reaction<Client>
+    ensures { result ≡ requests' who.config who.number x t }
 {
     match x {
         State::Offered(q, a) => {
-            let sent = broadcast(c, i, q, Body::Request(a, t));
+            let sent = broadcast(who, q, Body::Request(a, t));
             reply(State::Waiting(q, a), Outcome::Done, sent)
         }
         _ => unmoved(x),
@@ -101,13 +99,12 @@ pub fn requests(c: InRange, i: u32, x: State, t: u32) -> Reaction<Client>
 
 // A renewal with the wanted end t and the new interaction n.
 #[tactic(auto, unfolding(rules::specs::Client::renews))]
-pub fn renews(c: InRange, i: u32, x: State, t: u32, n: u32) -> Reaction<Client>
-    requires { i < c.clients }
-    ensures { result ≡ renews' c i x t n }
+pub fn renews(who: ClientOf, x: State, t: u32, n: u32) -> Reaction<Client>
+    ensures { result ≡ renews' who.config who.number x t n }
 {
     match x {
         State::Holding(a, e, _) => {
-            let sent = broadcast(c, i, n, Body::Renew(a, e, t));
+            let sent = broadcast(who, n, Body::Renew(a, e, t));
             reply(State::Holding(a, e, n), Outcome::Done, sent)
         }
         _ => unmoved(x),

@@ -1,15 +1,14 @@
 // True time, clocks and notice times: what a pass does, and the refusals that look at time.
 #![tactic(auto)]
 
-ghost use Rattle.std.specs.Prelude.{◌≡◌, ◌+◌, ◌≤◌, ◌<◌, nat_abs};
-ghost use Rattle.rules.specs.Conditions.{all};
-ghost use Rattle.rules.specs.Parts.{server_at, offset_at};
-ghost use Rattle.rules.specs.Steps.{offset_allows, has_heard, is_in_touch, are_in_touch, is_credible_notice, moved, lapse, row_now};
+ghost use Rattle.std.specs.Prelude.{◌≡◌, ◌+◌, ◌≤◌, ◌<◌, get_or, nat_abs};
+ghost use Rattle.rules.specs.Parts.{no_server, offset_at};
+ghost use Rattle.rules.specs.Steps.{offset_allows, has_heard, is_in_touch, are_in_touch, is_credible_notice, moved, lapse};
 ghost use Rattle.rules.proofs.Kept.{Configured};
 ghost use Rattle.rules.specs.Ranges.{last_time};
 
 use arith::{clock_reading, not_negative, shifted};
-use types::{Config, Facade};
+use types::{Config, Facade, Server};
 
 // Refusal 9: no clock, ahead by o, goes back or is off by more than Δ.
 #[tactic(auto, using(rules::proofs::Laws::tests))]
@@ -20,40 +19,40 @@ pub fn offset_allows(c: Config, o: i32, d: u32, e: i32) -> bool
     not_negative(d, e) && shifted(o, e).unsigned_abs() <= c.skew
 }
 
-// Server k had a notice about server j at most ν before `now`, or is that server, by the notice times.
+// Server k, whose last notice about server j was at h, had that at most ν before `now`, or is that server.
 #[tactic(auto, using(rules::proofs::Laws::tests))]
-fn has_heard(c: Config, ts: &[u32; 16], now: u32, k: u32, j: u32) -> bool
-    requires { (k < 4) × (j < 4) }
-    ensures { result ≡ has_heard c ts.now now k j }
+fn has_heard(c: Config, now: u32, k: usize, j: usize, h: u32) -> bool
+    ensures { result ≡ has_heard c now k j h }
 {
-    let last = ts[(k * 4 + j) as usize] as u64 + c.detection as u64;
-    j == k || now as u64 <= last
+    j == k || u64::from(now) <= u64::from(h) + u64::from(c.detection)
 }
 
-// Server k had a notice about every other within ν.
-fn is_heard_by(c: Config, ts: &[u32; 16], now: u32, k: u32) -> bool
-    requires { (k < 4) × (c.servers ≤ 4) }
-    ensures { result ≡ all (has_heard c ts.now now k) c.servers }
-{
-    (0..c.servers).all(|j| has_heard(c, ts, now, k, j))
-}
-
-// So had it, if it is alive.
+// Server k, if it is alive, had a notice about every other within ν, by its notice times. A clause here and below, and no `InRange`:
+// no more is asked of the configuration.
 #[tactic(auto, using(rules::proofs::Laws::tests))]
-fn is_in_touch(c: Config, ts: &[u32; 16], now: u32, k: u32, alive: bool) -> bool
-    requires { (k < 4) × (c.servers ≤ 4) }
-    ensures { result ≡ is_in_touch c ts.now now k alive }
+fn is_in_touch(c: Config, now: u32, k: usize, row: &[u32; 4], alive: bool) -> bool
+    requires { c.servers ≤ 4 }
+    ensures { result ≡ is_in_touch c now k row.now alive }
 {
-    !alive || is_heard_by(c, ts, now, k)
+    let count = c.servers as usize;
+    !alive
+        || row[..count]
+            .iter()
+            .enumerate()
+            .all(|(j, h)| has_heard(c, now, k, j, *h))
 }
 
-// Refusal 10: by the notice times no live server is more than ν without a notice about another, at true time `now`.
-pub fn are_in_touch(f: &Facade, now: u32) -> bool
-    requires { f.now.config.servers ≤ 4 }
-    ensures { result ≡ are_in_touch f.now.config f.now.notices now (λ k. (server_at f.now k).alive) }
+// Refusal 10: by the notice times no live server is more than ν without a notice about another, at true time `now`. Whether one is
+// alive is looked up by its place, as its number is needed too.
+pub fn are_in_touch(c: Config, now: u32, ts: &[[u32; 4]; 4], ss: &[Server; 4]) -> bool
+    requires { c.servers ≤ 4 }
+    ensures { result ≡ are_in_touch c now ts.now (λ k. (get_or ss.now k no_server).alive) }
 {
-    let c = f.config;
-    (0..c.servers).all(|k| is_in_touch(c, &f.notices, now, k, f.servers[k as usize].alive))
+    let count = c.servers as usize;
+    ts[..count]
+        .iter()
+        .enumerate()
+        .all(|(k, row)| is_in_touch(c, now, k, row, ss[k].alive))
 }
 
 // True time and all clocks go on by d, and that of party p by e more.
@@ -67,7 +66,7 @@ pub fn moved(f: &mut Facade, d: u32, p: u32, e: i32)
 }
 
 // Holds whose end is not above their client's clock are over. A clause, and no `InRange`: the configuration is the facade's own, which
-// may be of any numbers.
+// may be of any numbers. By places: over a `zip` with the offsets the check leaves three goals more to prove.
 #[tactic(auto, using(arith::proofs::Chains::written_none, arith::proofs::Chains::written_more, arith::proofs::Chains::written_all, arith::proofs::Chains::next_still), unfolding(rules::specs::Steps::lapsed_at, rules::specs::Steps::holds_ended, rules::specs::Steps::lapse))]
 pub fn lapse(f: &mut Facade)
     requires { Configured f.old.config × (f.old.time ≤ last_time) }
@@ -88,19 +87,6 @@ pub fn lapse(f: &mut Facade)
 pub fn is_credible_notice(c: Config, t: u32, alive: bool, changed: u32, says: u32) -> bool
     ensures { result ≡ is_credible_notice c t alive changed says }
 {
-    let recent = (t as u64) < changed as u64 + c.detection as u64;
+    let recent = u64::from(t) < u64::from(changed) + u64::from(c.detection);
     (alive == (says == 1)) || recent
-}
-
-// The notice times of receiver k are set to t.
-#[tactic(auto, unfolding(rules::specs::Steps::row_now))]
-pub fn row_now(ts: &mut [u32; 16], k: u32, t: u32)
-    requires { k < 4 }
-    ensures { ts.new ≡ row_now ts.old k t }
-{
-    let at = (k * 4) as usize;
-    ts[at] = t;
-    ts[at + 1] = t;
-    ts[at + 2] = t;
-    ts[at + 3] = t;
 }

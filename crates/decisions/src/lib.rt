@@ -1,4 +1,5 @@
-// What the rules 6 to 12 say of a step of a facade, and what happens in it: f is the facade.
+// What the rules 6 to 12 say of a step of a facade, and what happens in it: f is the facade. That its world is in range is a clause;
+// `facade` says why.
 #![tactic(auto)]
 
 ghost use Rattle.std.specs.Prelude.{◌≡◌, cond, Some, None, T, ltb};
@@ -14,6 +15,7 @@ use arith::check;
 use client::{is_holding, is_offered};
 use clocks::{are_in_touch, is_credible_notice, offset_allows};
 use outbox::no_message;
+use steps::WellFormed;
 use types::{
     Action, ClientEvent, Config, Deed, Facade, LAST_INTERACTION, LAST_TIME, Message, Refusal,
     ServerEvent, State,
@@ -40,7 +42,8 @@ fn state_of(f: &Facade, i: u32) -> State
     f.clients.get(i as usize).map_or(State::Idle, |y| y.state)
 }
 
-// Refusals 6 and 7 of fail, return and cleanup of server k, which is in a state that allows it or not.
+// Refusals 6 and 7 of fail, return and cleanup of server k, which is in a state that allows it or not. Beside those of a client: one
+// function of both would be handed a count and a test that is always met.
 #[tactic(auto, unfolding(rules::specs::Conditions::unless))]
 fn server_barred(c: Config, k: u32, allowed: bool) -> Result<(), Refusal>
     ensures { refusal_of result ≡ unless (is_server c k) 6 (unless allowed 7 0) }
@@ -89,18 +92,21 @@ fn pass_barred(f: &Facade, d: u32, p: u32, e: i32) -> Result<(), Refusal>
         offset_allows(c, f.offsets[p as usize], d, e),
         Refusal::ClockOff,
     )?;
-    check(are_in_touch(f, f.time + d), Refusal::OutOfTouch)
+    check(
+        are_in_touch(c, f.time + d, &f.notices, &f.servers),
+        Refusal::OutOfTouch,
+    )
 }
 
 // Refusals 6 to 12.
 #[tactic(auto, unfolding(rules::specs::Conditions::unless, rules::specs::Steps::barred, rules::specs::Steps::exists, rules::specs::Steps::state_allows, rules::specs::Steps::of_pass, rules::specs::Steps::of_notice, rules::specs::Steps::interaction_left))]
-pub fn barred(f: &Facade, a: Action) -> Result<(), Refusal>
-    requires { WorldInRange f.now × (malformed a 0 ≡ 0) }
-    ensures { refusal_of result ≡ barred' (whole f.now) a 0 }
+pub fn barred(f: &Facade, a: WellFormed) -> Result<(), Refusal>
+    requires { WorldInRange f.now }
+    ensures { refusal_of result ≡ barred' (whole f.now) a.action 0 }
 {
     let c = f.config;
     let left = f.next <= LAST_INTERACTION;
-    match a {
+    match a.action {
         Action::Pass(d, p, e) => pass_barred(f, d, p, e),
         Action::Fail(k) | Action::Cleanup(k) => server_barred(c, k, is_alive(f, k)),
         Action::Return(k) => server_barred(c, k, !is_alive(f, k)),

@@ -1,18 +1,18 @@
-// What a party does to which something happens.
+// What a party does to which something happens. That the world of a facade and an event are in range stands in clauses; `facade`
+// says why.
 #![tactic(auto)]
 
 ghost use Rattle.std.specs.Prelude.{◌≡◌, ◌≤◌, ◌<◌, T};
 ghost use Rattle.rules.specs.Parts.{with_life, with_notices};
 ghost use Rattle.rules.specs.Steps.{server_after, notices_after, client_after, next_after};
 ghost use Rattle.deeds.specs.Deeds.{event_in_range, served, asked};
-ghost use Rattle.rules.specs.Ranges.{after_last, last_reading};
+ghost use Rattle.rules.specs.Ranges.{after_last};
 ghost use Rattle.rules.proofs.Sizes.{WorldInRange};
 
 use arith::clock_reading;
 use client::{discovers, renews, requests};
-use clocks::row_now;
 use outbox::done;
-use ranges::InRange;
+use ranges::{ClientOf, ServerAt};
 use types::{Client, ClientEvent, Facade, Reaction, Server, ServerEvent, State};
 
 // Server s is alive or not from true time t on.
@@ -26,18 +26,22 @@ fn with_life(s: Server, alive: bool, t: u32) -> Server
     }
 }
 
-// Server k after an event at true time t, its clock reading being r.
+// A server of value s after an event at true time t.
 #[tactic(auto, using(crate::proofs::Laws::about_low, crate::proofs::Laws::body_ready), unfolding(rules::specs::Steps::server_after))]
-fn server_after(c: InRange, t: u32, k: u32, r: u32, s: Server, e: ServerEvent) -> Reaction<Server>
-    requires { (k < c.servers) × (r ≤ last_reading) × T (event_in_range c k e) }
-    ensures { result ≡ server_after c t k r s e }
+fn server_after(who: ServerAt, t: u32, s: Server, e: ServerEvent) -> Reaction<Server>
+    requires { T (event_in_range who.config who.number e) }
+    ensures { result ≡ server_after who.config t who.number who.reading s e }
 {
     match e {
         ServerEvent::Fails => done(with_life(s, false, t)),
-        ServerEvent::Returns => done(with_life(server::after_return(r, s).after, true, t)),
-        ServerEvent::Notices(j, says) => server::noticed(c, k, r, s, j, says),
-        ServerEvent::Receives(m) => server::server_receives(c, k, r, s, m),
-        ServerEvent::CleansUp => server::cleaned(c, r, s),
+        ServerEvent::Returns => done(with_life(
+            server::after_return(who.reading, s).after,
+            true,
+            t,
+        )),
+        ServerEvent::Notices(j, says) => server::noticed(who, s, j, says),
+        ServerEvent::Receives(m) => server::server_receives(who, s, m),
+        ServerEvent::CleansUp => server::cleaned(who.known(), who.reading, s),
     }
 }
 
@@ -48,9 +52,12 @@ pub fn served(f: &Facade, k: u32, e: ServerEvent) -> Reaction<Server>
     ensures { result ≡ served f.now k e }
 {
     let at = k as usize;
-    let reading = clock_reading(f.time, f.offsets[at]);
-    let c = InRange { config: f.config };
-    server_after(c, f.time, k, reading, f.servers[at], e)
+    let who = ServerAt {
+        config: f.config,
+        number: k,
+        reading: clock_reading(f.time, f.offsets[at]),
+    };
+    server_after(who, f.time, f.servers[at], e)
 }
 
 // The notice times after it.
@@ -61,22 +68,21 @@ pub fn notices_after(f: &mut Facade, k: u32, e: ServerEvent)
 {
     let now = f.time;
     match e {
-        ServerEvent::Returns => row_now(&mut f.notices, k, now),
-        ServerEvent::Notices(j, _) => f.notices[(k * 4 + j) as usize] = now,
+        ServerEvent::Returns => f.notices[k as usize] = [now; 4],
+        ServerEvent::Notices(j, _) => f.notices[k as usize][j as usize] = now,
         ServerEvent::Fails | ServerEvent::Receives(_) | ServerEvent::CleansUp => {}
     }
 }
 
-// Client i in state x after an event, its clock reading being r and n the next interaction.
+// A client in state x after an event, its clock reading being r and n the next interaction.
 #[tactic(auto, unfolding(rules::specs::Steps::client_after))]
-fn client_after(c: InRange, n: u32, i: u32, r: u32, x: State, e: ClientEvent) -> Reaction<Client>
-    requires { i < c.clients }
-    ensures { result ≡ client_after c n i r x e }
+fn client_after(who: ClientOf, n: u32, r: u32, x: State, e: ClientEvent) -> Reaction<Client>
+    ensures { result ≡ client_after who.config n who.number r x e }
 {
     match e {
-        ClientEvent::Discovers => discovers(c, i, x, n),
-        ClientEvent::Requests(t) => requests(c, i, x, t),
-        ClientEvent::Renews(t) => renews(c, i, x, t, n),
+        ClientEvent::Discovers => discovers(who, x, n),
+        ClientEvent::Requests(t) => requests(who, x, t),
+        ClientEvent::Renews(t) => renews(who, x, t, n),
         ClientEvent::Hears(m) => client::client_receives(r, x, m),
     }
 }
@@ -89,8 +95,11 @@ pub fn asked(f: &Facade, i: u32, e: ClientEvent) -> Reaction<Client>
 {
     let party = (f.config.servers + i) as usize;
     let reading = clock_reading(f.time, f.offsets[party]);
-    let c = InRange { config: f.config };
-    client_after(c, f.next, i, reading, f.clients[i as usize].state, e)
+    let who = ClientOf {
+        config: f.config,
+        number: i,
+    };
+    client_after(who, f.next, reading, f.clients[i as usize].state, e)
 }
 
 // The next interaction after it.

@@ -5,37 +5,58 @@
 #![tactic(auto)]
 
 ghost use Rattle.std.specs.Prelude.{◌≡◌, true, length};
+ghost use Rattle.std.specs.Result.{result_unwrap_or};
+ghost use Rattle.types.specs.Numbers.{refusal_of};
+ghost use Rattle.rules.specs.Answers.{outcome_of};
 ghost use Rattle.rules.specs.Steps.{step_of};
 ghost use Rattle.flat.specs.Flat.{codes_facade};
 ghost use Rattle.script.specs.Reading.{verdict as verdict'};
 ghost use Rattle.replay.specs.Output.{output_length, output_into};
 ghost use Rattle.export.specs.Export.{fresh_refusal, fresh_numbers, stepped_refusal, stepped_numbers, stepped_outcome, written_refusal, written_script, written_length};
 
+use arith::{check, number_of};
 use facade::{start, step};
-use flat::{Coded, Flat};
-use types::{Config, Facade, Refusal, Step};
+use flat::{Coded, Cursor, Flat};
+use types::{Config, Facade, Outcome, Refusal, Step};
+
+// The fresh facade of a configuration is put into a list.
+#[tactic(auto, using(rules::proofs::Laws::tests, flat::proofs::Laws::over_whole, flat::proofs::Back::facade_coded), unfolding(crate::specs::Export::fresh_refusal, crate::specs::Export::fresh_numbers))]
+fn put_fresh(config: &[u32], facade: &mut [u32]) -> Result<(), Refusal>
+    ensures value { refusal_of result ≡ fresh_refusal config.now (length facade.old) }
+    ensures facade_after { facade.new ≡ fresh_numbers config.now facade.old }
+    ensures codes { refusal_of result ≡ 0 → codes_facade facade.new ≡ true }
+{
+    check(config.len() == Config::width(), Refusal::OutOfRange)?;
+    check(facade.len() == Facade::width(), Refusal::OutOfRange)?;
+    start(Config::read(Cursor::new(config)))?.put(facade);
+    Ok(())
+}
 
 // The fresh facade of a configuration.
-#[tactic(auto, using(rules::proofs::Laws::tests, flat::proofs::Laws::over_whole, flat::proofs::Back::facade_coded), unfolding(crate::specs::Export::fresh_refusal, crate::specs::Export::fresh_numbers))]
 pub fn hoyllaqe_fresh(config: &[u32], facade: &mut [u32]) -> u32
     ensures value { result ≡ fresh_refusal config.now (length facade.old) }
     ensures facade_after { facade.new ≡ fresh_numbers config.now facade.old }
     ensures codes { result ≡ 0 → codes_facade facade.new ≡ true }
 {
-    if config.len() != 7 || facade.len() != 2778 {
-        return u32::from(Refusal::OutOfRange);
-    }
-    match start(Config::read(config, 0)) {
-        Ok(f) => {
-            f.put(facade, 0);
-            0
-        }
-        Err(n) => u32::from(n),
-    }
+    number_of(&put_fresh(config, facade))
+}
+
+// A step of a facade in its flat form.
+#[tactic(auto, using(rules::proofs::Laws::tests, flat::proofs::Blocks::coded_length, flat::proofs::Laws::over_whole, flat::proofs::Back::facade_coded), unfolding(crate::specs::Export::stepped_refusal, crate::specs::Export::stepped_numbers, crate::specs::Export::stepped_outcome))]
+fn take_step(facade: &mut [u32], s: Step) -> Result<Outcome, Refusal>
+    ensures value { refusal_of result ≡ stepped_refusal facade.old s }
+    ensures outcome { outcome_of result ≡ stepped_outcome facade.old s }
+    ensures facade_after { facade.new ≡ stepped_numbers facade.old s }
+    ensures codes { refusal_of result ≡ 0 → codes_facade facade.new ≡ true }
+{
+    check(Facade::is_coded_by(facade), Refusal::OutOfRange)?;
+    let mut f = Facade::read(Cursor::new(facade));
+    let outcome = step(&mut f, s)?;
+    f.put(facade);
+    Ok(outcome)
 }
 
 // A step of a facade handed in, which becomes the next one.
-#[tactic(auto, using(rules::proofs::Laws::tests, flat::proofs::Blocks::coded_length, flat::proofs::Laws::over_whole, flat::proofs::Back::facade_coded), unfolding(crate::specs::Export::stepped_refusal, crate::specs::Export::stepped_numbers, crate::specs::Export::stepped_outcome))]
 pub fn hoyllaqe_step(
     facade: &mut [u32],
     kind: u32,
@@ -49,55 +70,39 @@ pub fn hoyllaqe_step(
     ensures outcome_after { outcome.new ≡ stepped_outcome facade.old (step_of kind first second third) }
     ensures codes { result ≡ 0 → codes_facade facade.new ≡ true }
 {
-    *outcome = 0;
-    if !Facade::is_coded_by(facade) {
-        return u32::from(Refusal::OutOfRange);
-    }
-    let s = Step {
-        kind,
-        first,
-        second,
-        third,
-    };
-    let mut f = Facade::read(facade, 0);
-    match step(&mut f, s) {
-        Ok(x) => {
-            f.put(facade, 0);
-            *outcome = u32::from(x);
-            0
-        }
-        Err(n) => u32::from(n),
-    }
+    let x = take_step(facade, Step::from([kind, first, second, third]));
+    *outcome = x.map_or(0, u32::from);
+    number_of(&x)
 }
 
 // The first of refusals 1 to 5 that reading the script through meets.
 pub fn hoyllaqe_verdict(script: &[u8]) -> u32
     ensures { result ≡ verdict' script.now }
 {
-    match script::verdict(script) {
-        Ok(()) => 0,
-        Err(n) => u32::from(n),
-    }
+    number_of(&script::verdict(script))
+}
+
+// The script of a configuration and of steps of four numbers each.
+#[tactic(auto, using(rules::proofs::Laws::tests), unfolding(crate::specs::Export::written_refusal, crate::specs::Export::written_script, crate::specs::Export::written_length))]
+fn write(config: &[u32], steps: &[u32], script: &mut [u8]) -> Result<usize, Refusal>
+    ensures value { refusal_of result ≡ written_refusal config.now steps.now (length script.old) }
+    ensures script_after { script.new ≡ written_script config.now steps.now script.old }
+    ensures size { result_unwrap_or result 0 ≡ written_length config.now steps.now (length script.old) }
+{
+    check(config.len() == Config::width(), Refusal::OutOfRange)?;
+    check(steps.len() % 4 == 0, Refusal::OutOfRange)?;
+    writer::write(Config::read(Cursor::new(config)), steps, script)
 }
 
 // The script of a configuration and of steps of four numbers each, and its length.
-#[tactic(auto, using(rules::proofs::Laws::tests), unfolding(crate::specs::Export::written_refusal, crate::specs::Export::written_script, crate::specs::Export::written_length))]
 pub fn hoyllaqe_write(config: &[u32], steps: &[u32], script: &mut [u8], size: &mut usize) -> u32
     ensures value { result ≡ written_refusal config.now steps.now (length script.old) }
     ensures script_after { script.new ≡ written_script config.now steps.now script.old }
     ensures size_after { size.new ≡ written_length config.now steps.now (length script.old) }
 {
-    *size = 0;
-    if config.len() != 7 || steps.len() % 4 != 0 {
-        return u32::from(Refusal::OutOfRange);
-    }
-    match writer::write(Config::read(config, 0), steps, script) {
-        Ok(n) => {
-            *size = n;
-            0
-        }
-        Err(n) => u32::from(n),
-    }
+    let x = write(config, steps, script);
+    *size = x.unwrap_or(0);
+    number_of(&x)
 }
 
 // What the program `rig` prints for a script, and how many bytes that is.

@@ -1,5 +1,6 @@
 // The functions of `export` under their C names, for the static library that C and Rust link. Each calls its namesake,
-// and answers a number, since C has no `Result`.
+// and answers a number, since C has no `Result`. They stand apart, since a C name may stand once in what is linked, and programs
+// here link `export`.
 #![tactic(auto)]
 
 ghost use Rattle.std.specs.Prelude.{◌≡◌, true, length};

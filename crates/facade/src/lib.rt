@@ -20,10 +20,9 @@ use clocks::{lapse, moved};
 use decisions::{barred, deed_of, taken_out};
 use deeds::{asked, next_after, notices_after, served};
 use ranges::{checked, in_range};
-use steps::{action_of, malformed};
+use steps::{WellFormed, formed};
 use types::{
-    Action, Client, ClientEvent, Config, Deed, Facade, Outbox, Outcome, Refusal, ServerEvent,
-    State, Step,
+    Client, ClientEvent, Config, Deed, Facade, Outbox, Outcome, Refusal, ServerEvent, State, Step,
 };
 
 // Before any step. All places are filled alike.
@@ -39,7 +38,7 @@ pub fn fresh(c: Config) -> Facade
         next: 1,
         offsets: [0; 36],
         servers: [s; 4],
-        notices: [0; 16],
+        notices: [[0; 4]; 4],
         clients: [idle; 32],
         messages: [empty; 128],
         waiting: 0,
@@ -68,7 +67,13 @@ fn fits(f: &Facade, taken: Option<u32>, sent: &Outbox) -> Result<(), Refusal>
 }
 
 // That a facade is in range stands in clauses, and no type carries it: `ask` may leave the next interaction beyond its range, and
-// only a whole step, which tests that one is left, keeps it.
+// only a whole step, which tests that one is left, keeps it. Nor is there a type for those that read it, as `served` and `barred`:
+// they borrow a facade that changes between them, so each call would make a value for one clause. So it is with a position that is
+// below `waiting`, with an event that names what is there, and with a waiting count that is not above 128: each is so of the facade
+// as it is then.
+
+// `serve` and `ask` put different parts, and end alike in three calls. One function over a closure that puts the part would
+// promise in four lines what these three calls say.
 
 // Server k is told of an event.
 #[tactic(auto, using(rules::proofs::Sizes::world_of_sound, rules::proofs::Sizes::sizes, rules::proofs::Sizes::waiting_high, crate::proofs::Laws::few_served, crate::proofs::Laws::taken_high))]
@@ -100,15 +105,15 @@ fn ask(f: &mut Facade, taken: Option<u32>, i: u32, e: ClientEvent) -> Result<Out
     Ok(x.outcome)
 }
 
-// A step of a facade in range that breaks none of the rules 4 and 5. A refused step changes nothing.
+// A well-formed step of a facade in range. A refused one changes nothing.
 #[tactic(auto, using(rules::proofs::Sizes::world_of_sound))]
-fn take(f: &mut Facade, a: Action) -> Result<Outcome, Refusal>
-    requires { T (in_range f.old) × (malformed' a 0 ≡ 0) }
-    ensures { answer_of result f.new ≡ answer_to f.old a }
+fn take(f: &mut Facade, a: WellFormed) -> Result<Outcome, Refusal>
+    requires { T (in_range f.old) }
+    ensures { answer_of result f.new ≡ answer_to f.old a.action }
 {
     barred(f, a)?;
-    let taken = taken_out(a);
-    match deed_of(f, a) {
+    let taken = taken_out(a.action);
+    match deed_of(f, a.action) {
         Deed::Rests => {
             take_from(f, taken);
             Ok(Outcome::Done)
@@ -128,9 +133,7 @@ pub fn take_step(f: &mut Facade, s: Step) -> Result<Outcome, Refusal>
     requires { T (in_range f.old) }
     ensures { answer_of result f.new ≡ step' f.old s }
 {
-    let a = action_of(s);
-    malformed(a)?;
-    take(f, a)
+    take(f, formed(s)?)
 }
 
 // A step of any facade, with any kind number and fields.

@@ -12,25 +12,37 @@ ghost use Rattle.flat.specs.Flat.{config_in, message_in, codes_message};
 ghost use Rattle.device.specs.Device.{Reply, reply_of};
 ghost use Rattle.firmware.specs.Firmware.{leaves, result_left, party_left, are_lists, receive_message_left, take_notice_left, come_back_left, clean_up_left, receive_reply_left, discover_left, request_left, renew_left, pass_time_left};
 
-use arith::check;
-use flat::{Coded, Flat, put_outbox};
+use arith::{check, number_of};
+use device::Device;
+use flat::{Coded, Cursor, Flat};
 use types::{Config, Message, Reaction, Refusal};
 
-// What the lists of a configuration and a party, a server or a client, code, with room for what is sent. Refusal 2 where they do
-// not fit.
+// The device of that number and clock reading, of which lists code the configuration and the party, a server or a client, with
+// room for what is sent. Refusal 2 where they do not fit.
 #[tactic(auto, using(rules::proofs::Laws::tests, flat::proofs::Blocks::coded_length), unfolding(crate::specs::Firmware::are_lists))]
-fn read_lists<T: Coded>(config: &[u32], party: &[u32], sent: &[u32]) -> Result<(Config, T), Refusal>
-    ensures fits { result ≡ cond (are_lists (codes T.numbers T.value T.WIDTH) config.now party.now sent.now) (Ok (config_in config.now 0, T.value party.now 0)) (Err OutOfRange) }
+fn read_device<T: Coded>(
+    config: &[u32],
+    number: u32,
+    reading: u32,
+    party: &[u32],
+    sent: &[u32],
+) -> Result<Device<T>, Refusal>
+    ensures fits { result ≡ cond (are_lists (codes T.numbers T.value T.WIDTH) config.now party.now sent.now) (Ok (record { config = config_in config.now 0; number = number; reading = reading; value = T.value party.now 0 })) (Err OutOfRange) }
     ensures ok { OnOk result ((length party.now ≡ T.WIDTH) × (length sent.now ≡ 29)) }
 {
     check(config.len() == 7, Refusal::OutOfRange)?;
     check(sent.len() == 29, Refusal::OutOfRange)?;
     check(T::is_coded_by(party), Refusal::OutOfRange)?;
-    Ok((Config::read(config, 0), T::read(party, 0)))
+    Ok(Device {
+        config: Config::read(Cursor::new(config)),
+        number,
+        reading,
+        value: T::read(Cursor::new(party)),
+    })
 }
 
 // What a device replies, put where it is not refused, and else outcome 0.
-#[tactic(auto, using(flat::proofs::Laws::over_whole, flat::proofs::Back::outbox_width))]
+#[tactic(auto, using(flat::proofs::Laws::over_whole))]
 fn put_reply<T: Coded>(
     x: Result<Reaction<T>, Refusal>,
     party: &mut [u32],
@@ -40,34 +52,34 @@ fn put_reply<T: Coded>(
     requires { OnOk x ((length party.old ≡ T.WIDTH) × (length sent.old ≡ 29)) }
     ensures { leaves result party.new sent.new outcome.new ≡ result_left T.numbers x party.old sent.old }
 {
+    let refusal = number_of(&x);
     match x {
         Ok(x) => {
-            x.after.put(party, 0);
-            put_outbox(sent, 0, x.outbox);
+            x.after.put(party);
+            x.outbox.put(sent);
             *outcome = u32::from(x.outcome);
-            0
         }
-        Err(n) => {
-            *outcome = 0;
-            u32::from(n)
-        }
+        Err(_) => *outcome = 0,
     }
+    refusal
 }
 
-// The device's step, on lists: it is handed what they code, and its reply is put. Where every answer that it may give is the
-// reply z, they are left as z leaves them.
+// The device's step, on lists, which stand one by one as C hands them. It is handed what they code, and its reply is put. Where
+// every answer that it may give is the reply z, they are left as z leaves them.
 #[tactic(auto, using(device::proofs::Laws::not_none), unfolding(crate::specs::Firmware::party_left))]
-fn answered<T: Coded, F: FnOnce((Config, T)) -> Result<Reaction<T>, Refusal>>(
+fn answered<T: Coded, F: FnOnce(Device<T>) -> Result<Reaction<T>, Refusal>>(
     config: &[u32],
+    number: u32,
+    reading: u32,
     party: &mut [u32],
     sent: &mut [u32],
     outcome: &mut u32,
-    device: F,
+    step: F,
 ) -> u32
-    requires { F.IsAlwaysCallable device }
-    ensures { (z : Reply T) → ((y : Result (Reaction T) Refusal) → F.post device (config_in config.now 0, T.value party.old 0) y → reply_of (T.value party.old 0) y ≡ z) → leaves result party.new sent.new outcome.new ≡ party_left T.numbers (are_lists (codes T.numbers T.value T.WIDTH) config.now party.old sent.old) z party.old sent.old }
+    requires { F.IsAlwaysCallable step }
+    ensures { (z : Reply T) → ((y : Result (Reaction T) Refusal) → F.post step (record { config = config_in config.now 0; number = number; reading = reading; value = T.value party.old 0 }) y → reply_of (T.value party.old 0) y ≡ z) → leaves result party.new sent.new outcome.new ≡ party_left T.numbers (are_lists (codes T.numbers T.value T.WIDTH) config.now party.old sent.old) z party.old sent.old }
 {
-    let x = read_lists(config, party, sent).and_then(device);
+    let x = read_device(config, number, reading, party, sent).and_then(step);
     put_reply(x, party, sent, outcome)
 }
 
@@ -77,7 +89,7 @@ fn message_of(l: &[u32]) -> Result<Message, Refusal>
     ensures { result ≡ cond (codes_message l.now) (Ok (message_in l.now 0)) (Err OutOfRange) }
 {
     check(Message::is_coded_by(l), Refusal::OutOfRange)?;
-    Ok(Message::read(l, 0))
+    Ok(Message::read(Cursor::new(l)))
 }
 
 // A message comes to the server.
@@ -94,8 +106,8 @@ pub extern "C" fn hoyllaqe_receive_message(
 ) -> u32
     ensures { leaves result server.new sent.new outcome.new ≡ receive_message_left config.now number reading server.old message.now sent.old }
 {
-    answered(config, server, sent, outcome, |(c, s)| {
-        device::device_receives(c, number, reading, s, message_of(message)?)
+    answered(config, number, reading, server, sent, outcome, |d| {
+        device::device_receives(d, message_of(message)?)
     })
 }
 
@@ -114,8 +126,8 @@ pub extern "C" fn hoyllaqe_take_notice(
 ) -> u32
     ensures { leaves result server.new sent.new outcome.new ≡ take_notice_left config.now number reading server.old about says sent.old }
 {
-    answered(config, server, sent, outcome, |(c, s)| {
-        device::device_noticed(c, number, reading, s, about, says)
+    answered(config, number, reading, server, sent, outcome, |d| {
+        device::device_noticed(d, about, says)
     })
 }
 
@@ -132,8 +144,8 @@ pub extern "C" fn hoyllaqe_come_back(
 ) -> u32
     ensures { leaves result server.new sent.new outcome.new ≡ come_back_left config.now number reading server.old sent.old }
 {
-    answered(config, server, sent, outcome, |(c, s)| {
-        device::device_returned(c, number, reading, s)
+    answered(config, number, reading, server, sent, outcome, |d| {
+        device::device_returned(d)
     })
 }
 
@@ -150,8 +162,8 @@ pub extern "C" fn hoyllaqe_clean_up(
 ) -> u32
     ensures { leaves result server.new sent.new outcome.new ≡ clean_up_left config.now number reading server.old sent.old }
 {
-    answered(config, server, sent, outcome, |(c, s)| {
-        device::device_cleaned(c, number, reading, s)
+    answered(config, number, reading, server, sent, outcome, |d| {
+        device::device_cleaned(d)
     })
 }
 
@@ -169,8 +181,8 @@ pub extern "C" fn hoyllaqe_receive_reply(
 ) -> u32
     ensures { leaves result client.new sent.new outcome.new ≡ receive_reply_left config.now number reading client.old message.now sent.old }
 {
-    answered(config, client, sent, outcome, |(c, y)| {
-        device::device_hears(c, number, reading, y, message_of(message)?)
+    answered(config, number, reading, client, sent, outcome, |d| {
+        device::device_hears(d, message_of(message)?)
     })
 }
 
@@ -188,8 +200,8 @@ pub extern "C" fn hoyllaqe_discover(
 ) -> u32
     ensures { leaves result client.new sent.new outcome.new ≡ discover_left config.now number reading client.old interaction sent.old }
 {
-    answered(config, client, sent, outcome, |(c, y)| {
-        device::device_discovers(c, number, reading, y, interaction)
+    answered(config, number, reading, client, sent, outcome, |d| {
+        device::device_discovers(d, interaction)
     })
 }
 
@@ -207,8 +219,8 @@ pub extern "C" fn hoyllaqe_request(
 ) -> u32
     ensures { leaves result client.new sent.new outcome.new ≡ request_left config.now number reading client.old wanted sent.old }
 {
-    answered(config, client, sent, outcome, |(c, y)| {
-        device::device_requests(c, number, reading, y, wanted)
+    answered(config, number, reading, client, sent, outcome, |d| {
+        device::device_requests(d, wanted)
     })
 }
 
@@ -227,8 +239,8 @@ pub extern "C" fn hoyllaqe_renew(
 ) -> u32
     ensures { leaves result client.new sent.new outcome.new ≡ renew_left config.now number reading client.old wanted interaction sent.old }
 {
-    answered(config, client, sent, outcome, |(c, y)| {
-        device::device_renews(c, number, reading, y, wanted, interaction)
+    answered(config, number, reading, client, sent, outcome, |d| {
+        device::device_renews(d, wanted, interaction)
     })
 }
 
@@ -245,7 +257,7 @@ pub extern "C" fn hoyllaqe_pass_time(
 ) -> u32
     ensures { leaves result client.new sent.new outcome.new ≡ pass_time_left config.now number reading client.old sent.old }
 {
-    answered(config, client, sent, outcome, |(c, y)| {
-        device::device_lapses(c, number, reading, y)
+    answered(config, number, reading, client, sent, outcome, |d| {
+        device::device_lapses(d)
     })
 }

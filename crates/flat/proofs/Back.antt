@@ -1,16 +1,20 @@
--- What was written reads back: for each type, its numbers and its reading.
+-- What was written reads back: the values of each type are flat.
 use mathlib.Core.Path.{◌≡◌, refl, sym, ap, ◌∙◌}
 use mathlib.Core.Bool.{Bool, true, false}
-use mathlib.Core.List.{List, [], ◌∷◌, ◌++◌}
-use Prim.Native.Nat.{ℕ, suc, ◌+◌, ◌*◌, ◌<◌}
+use mathlib.Core.List.{List, [], ◌∷◌}
+use Prim.Native.Nat.{ℕ, ◌+◌, ◌*◌, ◌<◌}
 use native.Mathlib.Nat.{add-zero}
 use native.Mathlib.Omega.{arith}
-use lib.Dec.{eqb}
-use lib.ListN.{length, length-append}
+use lib.ListN.{length, get_or, take, length-append}
 use mir.Syntax.{w32}
 use mir.Val.{SFits}
-use Rattle.std.specs.Prelude.{Option, Some, None}
+use Rattle.std.specs.List.{concat, flat_map}
+use Rattle.std.specs.Prelude.{ℤ, Option, Some, None}
+use Rattle.types.specs.Rows.{config_from, config_row}
+use Rattle.types.specs.declared.Config.{Config}
 use Rattle.types.specs.declared.OpenWrite.{OpenWrite}
+use Rattle.types.specs.declared.Reservation.{Reservation}
+use Rattle.types.specs.declared.Pending.{Pending}
 use Rattle.types.specs.declared.Server.{Server}
 use Rattle.types.specs.declared.State.{State}
 use Rattle.types.specs.declared.State.TheVariants.{Idle, Asking, Offered, Waiting, Holding}
@@ -22,55 +26,48 @@ use Rattle.types.specs.declared.Outbox.{Outbox}
 use Rattle.types.specs.declared.Facade.{Facade}
 use Rattle.rules.specs.Parts.{taken, open_write}
 use Rattle.wire.proofs.Numbers.{complement_signed}
-use Rattle.flat.specs.Blocks.{each, each_in}
-use Rattle.flat.specs.Flat.{plain, number_in, flag_number, flag_numbers, flag_in, offset_numbers, offset_in, config_numbers, config_in, option_numbers, option_in, reservation_numbers, reservation_in, pending_numbers, pending_in, write_numbers, write_in, leading_numbers, ends_numbers, server_numbers, server_in, state_numbers, state_of, client_numbers, client_in, body_numbers, body_of, message_numbers, message_in, outbox_numbers, outbox_in, times_numbers, facade_numbers, facade_at, facade_in, codes_facade, codes_server, codes_client, codes_message}
+use Rattle.flat.specs.Blocks.{each_in, Holds, IsFlat}
+use Rattle.flat.specs.Flat.{plain, number_in, flag_numbers, flag_in, offset_numbers, offset_in, config_in, option_numbers, option_in, reservation_numbers, reservation_in, pending_numbers, pending_in, write_parts, write_numbers, write_in, server_parts, server_numbers, server_in, state_numbers, state_of, state_in, client_numbers, client_in, body_numbers, body_of, body_in, message_parts, message_numbers, message_in, outbox_parts, outbox_numbers, outbox_in, facade_parts, facade_numbers, facade_at, facade_in, codes_facade, codes_server, codes_client, codes_message}
 use Rattle.flat.specs.Shape.{Any, Has, WriteShaped, ServerShaped, OutboxShaped, FacadeShaped}
-use Rattle.flat.proofs.Blocks.{Holds, holds_left, holds_right, Back, many_any, array_back, own_reads, own_coded}
+use Rattle.flat.proofs.Blocks.{holds_part, array_flat, own_reads, own_coded}
 
 -- the first number of a list that is held at p
-first : (l : List ℕ) (p : ℕ) (v : List ℕ) → Holds l p v → 0 < length v → number_in l p ≡ number_in v 0
-first l p v h k = ap (number_in l) (sym (add-zero p)) ∙ h 0 k
+first : {l : List ℕ} {p : ℕ} {v : List ℕ} → Holds l p v → 0 < length v → number_in l p ≡ number_in v 0
+first {l} {p} h k = ap (number_in l) (sym (add-zero p)) ∙ h.at 0 k
 
 -- Single numbers.
 
-pub plain_back : Back Any plain number_in 1
-plain_back = record { width = λ n s. refl; reads = λ n s l p h. first l p (plain n) h (omega arith) }
+pub plain_flat : (n : ℕ) → IsFlat Any plain number_in 1 n
+plain_flat n = record { shaped = tt; wide = refl; reads = λ l p h. first h (omega arith) }
 
 flag_own : (b : Bool) → flag_in (flag_numbers b) 0 ≡ b
 flag_own true = refl
 flag_own false = refl
 
-pub flag_back : Back Any flag_numbers flag_in 1
-flag_back = record {
-  width = λ b s. refl;
-  reads = λ b s l p h. rw (first l p (flag_numbers b) h (omega arith)) (flag_own b);
-}
+pub flag_flat : (b : Bool) → IsFlat Any flag_numbers flag_in 1 b
+flag_flat b = record { shaped = tt; wide = refl; reads = λ l p h. rw (first h (omega arith)) (flag_own b) }
 
-pub offset_back : Back (SFits w32) offset_numbers offset_in 1
-offset_back = record {
-  width = λ z s. refl;
-  reads = λ z s l p h. rw (first l p (offset_numbers z) h (omega arith)) (complement_signed z s);
-}
+pub offset_flat : (z : ℤ) → SFits w32 z → IsFlat (SFits w32) offset_numbers offset_in 1 z
+offset_flat z s = record { shaped = s; wide = refl; reads = λ l p h. rw (first h (omega arith)) (complement_signed z s) }
 
--- Blocks of a few numbers: in a longer list they read as by themselves.
-module _ (l : List ℕ) (p : ℕ) (v : List ℕ) (h : Holds l p v) where
-  client_window : length v ≡ 4 → client_in l p ≡ client_in v 0
-  client_window e = rw (first l p v h (omega arith), h 1 (omega arith), h 2 (omega arith), h 3 (omega arith))
+-- Arrays.
 
-  option_window : {A : Type 0} (some : ℕ → ℕ → Option A) → length v ≡ 3 → option_in some l p ≡ option_in some v 0
-  option_window some e = rw (first l p v h (omega arith), h 1 (omega arith), h 2 (omega arith))
+pub plains : (xs : List ℕ) → flat_map plain xs ≡ xs
+plains [] = refl
+plains (x ∷ xs) = ap (λ (v : List ℕ). x ∷ v) (plains xs)
 
-  config_window : length v ≡ 7 → config_in l p ≡ config_in v 0
-  config_window e =
-      rw (first l p v h (omega arith), h 1 (omega arith), h 2 (omega arith), h 3 (omega arith), h 4 (omega arith), h 5 (omega arith), h 6 (omega arith))
+pub plains_flat : (n : ℕ) (xs : List ℕ) → length xs ≡ n → IsFlat (Has n Any) (flat_map plain) (each_in number_in 1 n) (1 * n) xs
+plains_flat n xs e = array_flat n xs e (λ k d h. plain_flat _)
 
-  message_window : length v ≡ 7 → message_in l p ≡ message_in v 0
-  message_window e =
-      rw (first l p v h (omega arith), h 1 (omega arith), h 2 (omega arith), h 3 (omega arith), h 4 (omega arith), h 5 (omega arith), h 6 (omega arith))
+pub flags_flat : (n : ℕ) (xs : List Bool) → length xs ≡ n → IsFlat (Has n Any) (flat_map flag_numbers) (each_in flag_in 1 n) (1 * n) xs
+flags_flat n xs e = array_flat n xs e (λ k d h. flag_flat _)
 
-pub config_back : Back Any config_numbers config_in 7
-unfolding config_numbers
-config_back = record { width = λ c s. refl; reads = λ c s l p h. config_window l p (config_numbers c) h refl }
+-- A configuration.
+
+pub config_flat : (c : Config) → IsFlat Any config_row config_in 7 c
+config_flat c =
+    let row = plains_flat 7 (config_row c) refl in
+    record { shaped = tt; wide = refl; reads = λ l p h. ap config_from (row.reads l p h) }
 
 -- Cases.
 
@@ -83,17 +80,24 @@ module _ {A : Type 0} (some : ℕ → ℕ → Option A) (g h : A → ℕ) (own :
   option_own None = refl
   option_own (Some x) = own x
 
-  option_back : Back Any (option_numbers g h) (option_in some) 3
-  option_back = record {
-    width = λ x s. option_width x;
-    reads = λ x s l p h'. option_window l p (option_numbers g h x) h' some (option_width x) ∙ option_own x;
+  option_flat : (x : Option A) → IsFlat Any (option_numbers g h) (option_in some) 3 x
+  option_flat x = record {
+    shaped = tt;
+    wide = option_width x;
+    reads = λ l p k.
+        let v = option_numbers g h x in
+        let e = option_width x in
+        rw (first k (omega arith), k.at 1 (omega arith), k.at 2 (omega arith)) (option_own x);
   }
 
-pub reservation_back : Back Any reservation_numbers reservation_in 3
-reservation_back = option_back taken (λ x. x.interaction) (λ x. x.reading) (λ x. refl)
+pub pair_flat : (x : Option (ℕ × ℕ)) → IsFlat Any (option_numbers (λ (x : ℕ × ℕ). x.0) (λ (x : ℕ × ℕ). x.1)) (option_in (λ a b. Some (a, b))) 3 x
+pair_flat = option_flat (λ a b. Some (a, b)) (λ x. x.0) (λ x. x.1) (λ x. refl)
 
-pub pending_back : Back Any pending_numbers pending_in 3
-pending_back = option_back open_write (λ x. x.interaction) (λ x. x.end) (λ x. refl)
+pub reservation_flat : (x : Option Reservation) → IsFlat Any reservation_numbers reservation_in 3 x
+reservation_flat = option_flat taken (λ x. x.interaction) (λ x. x.reading) (λ x. refl)
+
+pub pending_flat : (x : Option Pending) → IsFlat Any pending_numbers pending_in 3 x
+pending_flat = option_flat open_write (λ x. x.interaction) (λ x. x.end) (λ x. refl)
 
 state_width : (x : State) → length (state_numbers x) ≡ 4
 state_width Idle = refl
@@ -102,8 +106,7 @@ state_width (Offered q a) = refl
 state_width (Waiting q a) = refl
 state_width (Holding a e q) = refl
 
-state_own : (x : State)
-    → state_of (number_in (state_numbers x) 0) (number_in (state_numbers x) 1) (number_in (state_numbers x) 2) (number_in (state_numbers x) 3) ≡ x
+state_own : (x : State) → state_in (state_numbers x) 0 ≡ x
 unfolding state_of
 state_own Idle = refl
 state_own (Asking q) = refl
@@ -111,10 +114,15 @@ state_own (Offered q a) = refl
 state_own (Waiting q a) = refl
 state_own (Holding a e q) = refl
 
-pub client_back : Back Any client_numbers client_in 4
-client_back = record {
-  width = λ x s. state_width x.state;
-  reads = λ x s l p h. client_window l p (client_numbers x) h (state_width x.state) ∙ ap (λ (y : State). record { state = y }) (state_own x.state);
+pub client_flat : (x : Client) → IsFlat Any client_numbers client_in 4 x
+client_flat x = record {
+  shaped = tt;
+  wide = state_width x.state;
+  reads = λ l p k.
+      let v = state_numbers x.state in
+      let e = state_width x.state in
+      let own : client_in v 0 ≡ x = ap (λ (y : State). record { state = y }) (state_own x.state) in
+      rw (first k (omega arith), k.at 1 (omega arith), k.at 2 (omega arith), k.at 3 (omega arith)) own;
 }
 
 body_width : (x : Body) → length (body_numbers x) ≡ 4
@@ -127,8 +135,7 @@ body_width (Write a v) = refl
 body_width (WriteAck a v) = refl
 body_width (Ack a e) = refl
 
-body_own : (x : Body)
-    → body_of (number_in (body_numbers x) 0) (number_in (body_numbers x) 1) (number_in (body_numbers x) 2) (number_in (body_numbers x) 3) ≡ x
+body_own : (x : Body) → body_in (body_numbers x) 0 ≡ x
 unfolding body_of
 body_own Empty = refl
 body_own Discover = refl
@@ -139,216 +146,141 @@ body_own (Write a v) = refl
 body_own (WriteAck a v) = refl
 body_own (Ack a e) = refl
 
-pub message_width : (m : Message) → length (message_numbers m) ≡ 7
-unfolding message_numbers
-message_width m = ap (λ (n : ℕ). suc (suc (suc n))) (body_width m.body)
-
-message_own : (m : Message) → message_in (message_numbers m) 0 ≡ m
-unfolding message_numbers
-message_own m = ap (λ (y : Body). record { sender = m.sender; receiver = m.receiver; interaction = m.interaction; body = y }) (body_own m.body)
-
-pub message_back : Back Any message_numbers message_in 7
-message_back = record {
-  width = λ m s. message_width m;
-  reads = λ m s l p h. message_window l p (message_numbers m) h (message_width m) ∙ message_own m;
+body_flat : (x : Body) → IsFlat Any body_numbers body_in 4 x
+body_flat x = record {
+  shaped = tt;
+  wide = body_width x;
+  reads = λ l p k.
+      let e = body_width x in
+      rw (first k (omega arith), k.at 1 (omega arith), k.at 2 (omega arith), k.at 3 (omega arith)) (body_own x);
 }
 
--- Arrays.
+-- Parts one behind the other.
 
-pub flags_back : (n : ℕ) → Back (Has n Any) (each flag_numbers) (each_in flag_in 1 n) (1 * n)
-flags_back = array_back Any flag_numbers flag_in 1 flag_back
+-- a value that is part i of lists which stand from p on
+module _ {A : Type 0} {P : A → Type 0} {f : A → List ℕ} {r : List ℕ → ℕ → A} {w : ℕ} {x : A} (h : IsFlat P f r w x) where
+  part_reads : {l : List ℕ} {p : ℕ} (vs : List (List ℕ)) (i q : ℕ) → Holds l p (concat vs) → i < length vs → get_or vs i [] ≡ f x
+      → q ≡ p + length (concat (take i vs)) → r l q ≡ x
+  part_reads {l} {p} vs i q k b e at = h.reads l q (rw e at (holds_part vs i p q k b at))
 
-pub plains_back : (n : ℕ) → Back (Has n Any) (each plain) (each_in number_in 1 n) (1 * n)
-plains_back = array_back Any plain number_in 1 plain_back
+pub message_flat : (m : Message) → IsFlat Any message_numbers message_in 7 m
+unfolding message_numbers
+message_flat m =
+    let vs = message_parts m in
+    let body = body_flat m.body in
+    record {
+      shaped = tt;
+      wide = omega (arith, length-append (body_numbers m.body) []);
+      reads = λ l p k.
+          rw (
+            first k (omega arith),
+            k.at 1 (omega arith),
+            k.at 2 (omega arith),
+            part_reads body vs 1 (p + 3) k (omega arith) refl refl,
+          );
+    }
 
-pub reservations_back : Back (Has 32 Any) (each reservation_numbers) (each_in reservation_in 3 32) 96
-reservations_back = array_back Any reservation_numbers reservation_in 3 reservation_back 32
-
--- An open write.
-
-pub write_width : (w : OpenWrite) → WriteShaped w → length (write_numbers w) ≡ 7
-unfolding write_numbers
-write_width w e =
-    let flags = (flags_back 4).width w.acked (many_any 4 w.acked e) in
-    omega (arith, length-append (pending_numbers w.pending) (each flag_numbers w.acked), pending_back.width w.pending tt, flags)
-
-write_reads : (w : OpenWrite) → WriteShaped w → (l : List ℕ) (p : ℕ) → Holds l p (write_numbers w) → write_in l p ≡ w
+pub write_flat : (w : OpenWrite) → WriteShaped w → IsFlat WriteShaped write_numbers write_in 7 w
 unfolding write_numbers write_in
-write_reads w e l p h =
-    let v = pending_numbers w.pending in
-    let flags = each flag_numbers w.acked in
-    let x = pending_back.reads w.pending tt l p (holds_left l p v flags h) in
-    let ys = (flags_back 4).reads w.acked (many_any 4 w.acked e) l (p + 3) (holds_right l p v flags h 3 (pending_back.width w.pending tt)) in
-    rw (x, ys)
+write_flat w h =
+    let vs = write_parts w in
+    let pending = pending_flat w.pending in
+    let acked = flags_flat 4 w.acked h in
+    record {
+      shaped = h;
+      wide = omega (arith, length-append {A = ℕ});
+      reads = λ l p k.
+          rw (
+            part_reads pending vs 0 p k (omega arith) refl (omega arith),
+            part_reads acked vs 1 (p + 3) k (omega arith) refl (omega (arith, length-append {A = ℕ})),
+          );
+    }
 
-pub write_back : Back WriteShaped write_numbers write_in 7
-write_back = record { width = write_width; reads = write_reads }
+pub server_flat : (s : Server) → ServerShaped s → IsFlat ServerShaped server_numbers server_in 423 s
+unfolding server_numbers server_in
+server_flat s h =
+    let vs = server_parts s in
+    let believed = flags_flat 4 s.believed h.believed in
+    let leads = flags_flat 32 s.leads h.leads in
+    let lent = plains_flat 32 s.lent h.lent in
+    let potlease = plains_flat 32 s.potlease h.potlease in
+    let reserved = array_flat 32 s.reserved h.reserved (λ k d b. reservation_flat _) in
+    let writes = array_flat 32 s.writes h.writes.many (λ k d b. write_flat _ (h.writes.each k d b)) in
+    record {
+      shaped = h;
+      wide = omega (arith, length-append {A = ℕ});
+      reads = λ l p k.
+          let alive : flag_in l p ≡ s.alive = rw (first k (omega arith)) (flag_own s.alive) in
+          rw (
+            alive,
+            k.at 1 (omega arith),
+            k.at 2 (omega arith),
+            part_reads believed vs 1 (p + 3) k (omega arith) refl refl,
+            part_reads leads vs 2 (p + 7) k (omega arith) refl (omega (arith, length-append {A = ℕ})),
+            part_reads lent vs 3 (p + 39) k (omega arith) refl (omega (arith, length-append {A = ℕ})),
+            part_reads potlease vs 4 (p + 71) k (omega arith) refl (omega (arith, length-append {A = ℕ})),
+            part_reads reserved vs 5 (p + 103) k (omega arith) refl (omega (arith, length-append {A = ℕ})),
+            part_reads writes vs 6 (p + 199) k (omega arith) refl (omega (arith, length-append {A = ℕ})),
+          );
+    }
 
-pub writes_back : Back (Has 32 WriteShaped) (each write_numbers) (each_in write_in 7 32) 224
-writes_back = array_back WriteShaped write_numbers write_in 7 write_back 32
+pub facade_flat : (f : Facade) → FacadeShaped f → IsFlat FacadeShaped facade_numbers facade_at 2778 f
+unfolding facade_numbers facade_at
+facade_flat f h =
+    let vs = facade_parts f in
+    let config = config_flat f.config in
+    let offsets = array_flat 36 f.offsets h.offsets.many (λ k d b. offset_flat _ (h.offsets.each k d b)) in
+    let notices = array_flat 4 f.notices h.notices.many (λ k d b. plains_flat 4 _ (h.notices.each k d b).many) in
+    let servers = array_flat 4 f.servers h.servers.many (λ k d b. server_flat _ (h.servers.each k d b)) in
+    let clients = array_flat 32 f.clients h.clients (λ k d b. client_flat _) in
+    let messages = array_flat 128 f.messages h.messages (λ k d b. message_flat _) in
+    record {
+      shaped = h;
+      wide = omega (arith, length-append {A = ℕ});
+      reads = λ l p k.
+          rw (
+            part_reads config vs 0 p k (omega arith) refl (omega arith),
+            k.at 7 (omega arith),
+            k.at 8 (omega arith),
+            k.at 9 (omega arith),
+            part_reads offsets vs 2 (p + 10) k (omega arith) refl refl,
+            part_reads notices vs 3 (p + 46) k (omega arith) refl (omega (arith, length-append {A = ℕ})),
+            part_reads servers vs 4 (p + 62) k (omega arith) refl (omega (arith, length-append {A = ℕ})),
+            part_reads clients vs 5 (p + 1754) k (omega arith) refl (omega (arith, length-append {A = ℕ})),
+            part_reads messages vs 6 (p + 1882) k (omega arith) refl (omega (arith, length-append {A = ℕ})),
+          );
+    }
 
--- A list behind another: the two lengths.
-pub behind : (v w : List ℕ) (m n k : ℕ) → length v ≡ m → length w ≡ n → m + n ≡ k → length (v ++ w) ≡ k
-behind v w m n k d e s = omega (arith, length-append v w)
-
--- A server: its parts one behind the other, each list with what is before it.
-module _ (s : Server) where
-  abbrev life : List ℕ
-  life = flag_number s.alive ∷ s.changed ∷ s.returned ∷ []
-
-  abbrev to_believed : List ℕ
-  to_believed = life ++ each flag_numbers s.believed
-
-  abbrev to_lent : List ℕ
-  to_lent = leading_numbers s ++ each plain s.lent
-
-  abbrev to_reserved : List ℕ
-  to_reserved = ends_numbers s ++ each reservation_numbers s.reserved
-
-  module _ (h : ServerShaped s) where
-    believed_width : length to_believed ≡ 7
-    believed_width = behind life (each flag_numbers s.believed) 3 4 7 refl ((flags_back 4).width _ (many_any 4 _ h.believed)) refl
-
-    leads_width : length (leading_numbers s) ≡ 39
-    leads_width = behind to_believed (each flag_numbers s.leads) 7 32 39 believed_width ((flags_back 32).width _ (many_any 32 _ h.leads)) refl
-
-    lent_width : length to_lent ≡ 71
-    lent_width = behind (leading_numbers s) (each plain s.lent) 39 32 71 leads_width ((plains_back 32).width _ (many_any 32 _ h.lent)) refl
-
-    records_width : length (ends_numbers s) ≡ 103
-    records_width = behind to_lent (each plain s.potlease) 71 32 103 lent_width ((plains_back 32).width _ (many_any 32 _ h.potlease)) refl
-
-    reserved_to : length to_reserved ≡ 199
-    reserved_to =
-        behind (ends_numbers s) (each reservation_numbers s.reserved) 103 96 199 records_width (reservations_back.width _ (many_any 32 _ h.reserved)) refl
-
-    pub server_width : length (server_numbers s) ≡ 423
-    unfolding server_numbers
-    server_width = behind to_reserved (each write_numbers s.writes) 199 224 423 reserved_to (writes_back.width _ h.writes) refl
-
-    server_reads : (l : List ℕ) (p : ℕ) → Holds l p (server_numbers s) → server_in l p ≡ s
-    unfolding server_numbers server_in
-    server_reads l p k =
-        let k₅ = holds_left l p to_reserved _ k in
-        let k₄ = holds_left l p (ends_numbers s) _ k₅ in
-        let k₃ = holds_left l p to_lent _ k₄ in
-        let k₂ = holds_left l p (leading_numbers s) _ k₃ in
-        let k₁ = holds_left l p to_believed _ k₂ in
-        let k₀ = holds_left l p life (each flag_numbers s.believed) k₁ in
-        let alive = ap (λ (n : ℕ). eqb n 1) (first l p life k₀ (omega arith)) ∙ flag_own s.alive in
-        let believed = (flags_back 4).reads s.believed (many_any 4 s.believed h.believed) l (p + 3) (holds_right l p life (each flag_numbers s.believed) k₁ 3 refl) in
-        let leads = (flags_back 32).reads s.leads (many_any 32 s.leads h.leads) l (p + 7) (holds_right l p to_believed _ k₂ 7 believed_width) in
-        let lent = (plains_back 32).reads s.lent (many_any 32 s.lent h.lent) l (p + 39) (holds_right l p (leading_numbers s) _ k₃ 39 leads_width) in
-        let records = (plains_back 32).reads s.potlease (many_any 32 s.potlease h.potlease) l (p + 71) (holds_right l p to_lent _ k₄ 71 lent_width) in
-        let reserved = reservations_back.reads s.reserved (many_any 32 s.reserved h.reserved) l (p + 103) (holds_right l p (ends_numbers s) _ k₅ 103 records_width) in
-        let writes = writes_back.reads s.writes h.writes l (p + 199) (holds_right l p to_reserved _ k 199 reserved_to) in
-        rw (alive, k₀ 1 (omega arith), k₀ 2 (omega arith), believed, leads, lent, records, reserved, writes)
-
-pub server_back : Back ServerShaped server_numbers server_in 423
-server_back = record { width = server_width; reads = server_reads }
-
-pub servers_back : Back (Has 4 ServerShaped) (each server_numbers) (each_in server_in 423 4) 1692
-servers_back = array_back ServerShaped server_numbers server_in 423 server_back 4
-
-pub offsets_back : Back (Has 36 (SFits w32)) (each offset_numbers) (each_in offset_in 1 36) 36
-offsets_back = array_back (SFits w32) offset_numbers offset_in 1 offset_back 36
-
-clients_back : Back (Has 32 Any) (each client_numbers) (each_in client_in 4 32) 128
-clients_back = array_back Any client_numbers client_in 4 client_back 32
-
-messages_back : (n : ℕ) → Back (Has n Any) (each message_numbers) (each_in message_in 7 n) (7 * n)
-messages_back = array_back Any message_numbers message_in 7 message_back
-
--- An outbox.
-
-outbox_reads : (o : Outbox) → OutboxShaped o → (l : List ℕ) (p : ℕ) → Holds l p (outbox_numbers o) → outbox_in l p ≡ o
+pub outbox_flat : (o : Outbox) → OutboxShaped o → IsFlat OutboxShaped outbox_numbers outbox_in 29 o
 unfolding outbox_numbers outbox_in
-outbox_reads o e l p h =
-    let v = plain o.count in
-    let messages = each message_numbers o.messages in
-    let count = first l p v (holds_left l p v messages h) (omega arith) in
-    let ms = (messages_back 4).reads o.messages (many_any 4 o.messages e) l (p + 1) (holds_right l p v messages h 1 refl) in
-    rw (count, ms)
-
-pub outbox_width : (o : Outbox) → OutboxShaped o → length (outbox_numbers o) ≡ 29
-unfolding outbox_numbers
-outbox_width o e = behind (plain o.count) (each message_numbers o.messages) 1 28 29 refl ((messages_back 4).width o.messages (many_any 4 o.messages e)) refl
-
-pub outbox_back : Back OutboxShaped outbox_numbers outbox_in 29
-outbox_back = record { width = outbox_width; reads = outbox_reads }
-
--- A facade, in the same way.
-module _ (f : Facade) where
-  abbrev counts : List ℕ
-  counts = f.time ∷ f.next ∷ f.waiting ∷ []
-
-  abbrev to_counts : List ℕ
-  to_counts = config_numbers f.config ++ counts
-
-  abbrev to_offsets : List ℕ
-  to_offsets = to_counts ++ each offset_numbers f.offsets
-
-  abbrev to_servers : List ℕ
-  to_servers = times_numbers f ++ each server_numbers f.servers
-
-  abbrev to_clients : List ℕ
-  to_clients = to_servers ++ each client_numbers f.clients
-
-  counts_width : length to_counts ≡ 10
-  counts_width = behind (config_numbers f.config) counts 7 3 10 (config_back.width f.config tt) refl refl
-
-  module _ (h : FacadeShaped f) where
-    offsets_width : length to_offsets ≡ 46
-    offsets_width = behind to_counts (each offset_numbers f.offsets) 10 36 46 counts_width (offsets_back.width _ h.offsets) refl
-
-    pub notices_width : length (times_numbers f) ≡ 62
-    notices_width = behind to_offsets (each plain f.notices) 46 16 62 offsets_width ((plains_back 16).width _ (many_any 16 _ h.notices)) refl
-
-    servers_width : length to_servers ≡ 1754
-    servers_width = behind (times_numbers f) (each server_numbers f.servers) 62 1692 1754 notices_width (servers_back.width _ h.servers) refl
-
-    pub clients_width : length to_clients ≡ 1882
-    clients_width = behind to_servers (each client_numbers f.clients) 1754 128 1882 servers_width (clients_back.width _ (many_any 32 _ h.clients)) refl
-
-    pub facade_width : length (facade_numbers f) ≡ 2778
-    unfolding facade_numbers
-    facade_width =
-        behind to_clients (each message_numbers f.messages) 1882 896 2778 clients_width ((messages_back 128).width _ (many_any 128 _ h.messages)) refl
-
-    facade_reads : (l : List ℕ) (p : ℕ) → Holds l p (facade_numbers f) → facade_at l p ≡ f
-    unfolding config_numbers facade_numbers facade_at
-    facade_reads l p k =
-        let k₅ = holds_left l p to_clients _ k in
-        let k₄ = holds_left l p to_servers _ k₅ in
-        let k₃ = holds_left l p (times_numbers f) _ k₄ in
-        let k₂ = holds_left l p to_offsets _ k₃ in
-        let k₁ = holds_left l p to_counts _ k₂ in
-        let config = config_back.reads f.config tt l p (holds_left l p (config_numbers f.config) counts k₁) in
-        let offsets = offsets_back.reads f.offsets h.offsets l (p + 10) (holds_right l p to_counts _ k₂ 10 counts_width) in
-        let notices = (plains_back 16).reads f.notices (many_any 16 f.notices h.notices) l (p + 46) (holds_right l p to_offsets _ k₃ 46 offsets_width) in
-        let servers = servers_back.reads f.servers h.servers l (p + 62) (holds_right l p (times_numbers f) _ k₄ 62 notices_width) in
-        let clients = clients_back.reads f.clients (many_any 32 f.clients h.clients) l (p + 1754) (holds_right l p to_servers _ k₅ 1754 servers_width) in
-        let messages = (messages_back 128).reads f.messages (many_any 128 f.messages h.messages) l (p + 1882) (holds_right l p to_clients _ k 1882 clients_width) in
-        rw (config, k₁ 7 (omega (arith, counts_width)), k₁ 8 (omega (arith, counts_width)), k₁ 9 (omega (arith, counts_width)), offsets, notices, servers, clients, messages)
-
-pub whole_back : Back FacadeShaped facade_numbers facade_at 2778
-whole_back = record { width = facade_width; reads = facade_reads }
+outbox_flat o h =
+    let vs = outbox_parts o in
+    let messages = array_flat 4 o.messages h (λ k d b. message_flat _) in
+    record {
+      shaped = h;
+      wide = omega (arith, length-append {A = ℕ});
+      reads = λ l p k.
+          rw (
+            part_reads (plain_flat o.count) vs 0 p k (omega arith) refl (omega arith),
+            part_reads messages vs 1 (p + 1) k (omega arith) refl refl,
+          );
+    }
 
 -- the law: what was written reads back, and codes
 
 pub facade_back : (f : Facade) → FacadeShaped f → facade_in (facade_numbers f) ≡ f
-facade_back = own_reads FacadeShaped facade_numbers facade_at 2778 whole_back
+facade_back f h = own_reads facade_numbers facade_at 2778 (facade_flat f h)
 
 pub facade_coded : (f : Facade) → FacadeShaped f → codes_facade (facade_numbers f) ≡ true
-facade_coded = own_coded FacadeShaped facade_numbers facade_at 2778 whole_back
+facade_coded f h = own_coded facade_numbers facade_at 2778 (facade_flat f h)
 
 -- The same of a server, a client and a message by itself.
 
 pub server_coded : (s : Server) → ServerShaped s → codes_server (server_numbers s) ≡ true
-server_coded = own_coded ServerShaped server_numbers server_in 423 server_back
+server_coded s h = own_coded server_numbers server_in 423 (server_flat s h)
 
 pub client_coded : (x : Client) → codes_client (client_numbers x) ≡ true
-client_coded x = own_coded Any client_numbers client_in 4 client_back x tt
+client_coded x = own_coded client_numbers client_in 4 (client_flat x)
 
 pub message_coded : (m : Message) → codes_message (message_numbers m) ≡ true
-message_coded m = own_coded Any message_numbers message_in 7 message_back m tt
+message_coded m = own_coded message_numbers message_in 7 (message_flat m)

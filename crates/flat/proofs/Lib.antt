@@ -1,4 +1,5 @@
 pub mod Blocks
 pub mod Back
 pub mod Made
+pub mod Pages
 pub mod Laws

@@ -1,6 +1,7 @@
 -- The flat form (docs/FLAT-FORM.md): for each type its numbers, and the reading from place p of a list on. Every list reads as
 -- something: a number past the end is 0, a flag is set if its number is 1, and a case that there is not is the first one.
-use Rattle.std.specs.Prelude.{Bool, cond, List, [], ◌∷◌, ◌++◌, ℕ, ◌+◌, eqb, ℤ, get_or, Option, Some, None}
+use Rattle.std.specs.Prelude.{Bool, cond, List, [], ◌∷◌, ℕ, ◌+◌, eqb, ℤ, get_or, flat_map, Option, Some, None}
+use Rattle.std.specs.List.{concat}
 use Rattle.types.specs.declared.Config.{Config}
 use Rattle.types.specs.declared.Reservation.{Reservation}
 use Rattle.types.specs.declared.Pending.{Pending}
@@ -14,10 +15,11 @@ use Rattle.types.specs.declared.Body.TheVariants.{Empty, Discover, Offer, Reques
 use Rattle.types.specs.declared.Message.{Message}
 use Rattle.types.specs.declared.Outbox.{Outbox}
 use Rattle.types.specs.declared.Facade.{Facade}
+use Rattle.types.specs.Rows.{config_from, config_row}
 use Rattle.rules.specs.Clock.{as_signed}
 use Rattle.rules.specs.Parts.{taken, open_write, in_state, message}
 use Rattle.wire.specs.Numbers.{complement}
-use Rattle.flat.specs.Blocks.{each, each_in, codes}
+use Rattle.flat.specs.Blocks.{each_in, codes}
 
 -- "Numbers stand as they are, signed ones in two's complement, a flag as 0 or 1."
 
@@ -44,19 +46,8 @@ offset_in l p = as_signed (number_in l p)
 
 -- "the configuration: servers S, clients C, addresses A, skew Δ, detection ν, mclt μ, retention θ"
 
-unfoldable pub config_numbers : Config → List ℕ
-config_numbers c = c.servers ∷ c.clients ∷ c.addresses ∷ c.skew ∷ c.detection ∷ c.mclt ∷ c.retention ∷ []
-
 abbrev pub config_in : List ℕ → ℕ → Config
-config_in l p = record {
-  servers = number_in l p;
-  clients = number_in l (p + 1);
-  addresses = number_in l (p + 2);
-  skew = number_in l (p + 3);
-  detection = number_in l (p + 4);
-  mclt = number_in l (p + 5);
-  retention = number_in l (p + 6);
-}
+config_in l p = config_from (each_in number_in 1 7 l p)
 
 -- None, or two numbers behind a 1: g and h give them, and `some` makes of them what they stand for.
 
@@ -83,8 +74,11 @@ pending_numbers = option_numbers (λ x. x.interaction) (λ x. x.end)
 abbrev pub pending_in : List ℕ → ℕ → Option Pending
 pending_in = option_in open_write
 
+abbrev pub write_parts : OpenWrite → List (List ℕ)
+write_parts w = pending_numbers w.pending ∷ flat_map flag_numbers w.acked ∷ []
+
 unfoldable pub write_numbers : OpenWrite → List ℕ
-write_numbers w = pending_numbers w.pending ++ each flag_numbers w.acked
+write_numbers w = concat (write_parts w)
 
 unfoldable pub write_in : List ℕ → ℕ → OpenWrite
 write_in l p = record {
@@ -94,25 +88,19 @@ write_in l p = record {
 
 -- "A server: 423 numbers"
 
--- up to the addresses that it leads: 39 numbers
-abbrev pub leading_numbers : Server → List ℕ
-leading_numbers s =
+abbrev pub server_parts : Server → List (List ℕ)
+server_parts s =
     (flag_number s.alive ∷ s.changed ∷ s.returned ∷ [])
-    ++ each flag_numbers s.believed
-    ++ each flag_numbers s.leads
-
--- up to the records: 103 numbers
-abbrev pub ends_numbers : Server → List ℕ
-ends_numbers s =
-    leading_numbers s
-    ++ each plain s.lent
-    ++ each plain s.potlease
+    ∷ flat_map flag_numbers s.believed
+    ∷ flat_map flag_numbers s.leads
+    ∷ flat_map plain s.lent
+    ∷ flat_map plain s.potlease
+    ∷ flat_map reservation_numbers s.reserved
+    ∷ flat_map write_numbers s.writes
+    ∷ []
 
 unfoldable pub server_numbers : Server → List ℕ
-server_numbers s =
-    ends_numbers s
-    ++ each reservation_numbers s.reserved
-    ++ each write_numbers s.writes
+server_numbers s = concat (server_parts s)
 
 unfoldable pub server_in : List ℕ → ℕ → Server
 server_in l p = record {
@@ -144,11 +132,14 @@ state_of k a b c =
     (cond (eqb k 4) (Holding a b c)
     Idle)))
 
+abbrev pub state_in : List ℕ → ℕ → State
+state_in l p = state_of (number_in l p) (number_in l (p + 1)) (number_in l (p + 2)) (number_in l (p + 3))
+
 abbrev pub client_numbers : Client → List ℕ
 client_numbers x = state_numbers x.state
 
 abbrev pub client_in : List ℕ → ℕ → Client
-client_in l p = in_state (state_of (number_in l p) (number_in l (p + 1)) (number_in l (p + 2)) (number_in l (p + 3)))
+client_in l p = in_state (state_in l p)
 
 -- "A message: 7 numbers"
 
@@ -173,38 +164,44 @@ body_of k a b c =
     (cond (eqb k 7) (Ack a b)
     Empty))))))
 
+abbrev pub body_in : List ℕ → ℕ → Body
+body_in l p = body_of (number_in l p) (number_in l (p + 1)) (number_in l (p + 2)) (number_in l (p + 3))
+
+abbrev pub message_parts : Message → List (List ℕ)
+message_parts m = (m.sender ∷ m.receiver ∷ m.interaction ∷ []) ∷ body_numbers m.body ∷ []
+
 unfoldable pub message_numbers : Message → List ℕ
-message_numbers m = (m.sender ∷ m.receiver ∷ m.interaction ∷ []) ++ body_numbers m.body
+message_numbers m = concat (message_parts m)
 
 abbrev pub message_in : List ℕ → ℕ → Message
-message_in l p =
-    message (number_in l p) (number_in l (p + 1)) (number_in l (p + 2))
-    (body_of (number_in l (p + 3)) (number_in l (p + 4)) (number_in l (p + 5)) (number_in l (p + 6)))
+message_in l p = message (number_in l p) (number_in l (p + 1)) (number_in l (p + 2)) (body_in l (p + 3))
 
 -- What a party sends, 29 numbers: how many, and the four places.
 
+abbrev pub outbox_parts : Outbox → List (List ℕ)
+outbox_parts o = plain o.count ∷ flat_map message_numbers o.messages ∷ []
+
 unfoldable pub outbox_numbers : Outbox → List ℕ
-outbox_numbers o = plain o.count ++ each message_numbers o.messages
+outbox_numbers o = concat (outbox_parts o)
 
 unfoldable pub outbox_in : List ℕ → ℕ → Outbox
 outbox_in l p = record { count = number_in l p; messages = each_in message_in 7 4 l (p + 1) }
 
 -- "A facade: 2,778 numbers"
 
--- up to the notice times: 62 numbers
-abbrev pub times_numbers : Facade → List ℕ
-times_numbers f =
-    config_numbers f.config
-    ++ (f.time ∷ f.next ∷ f.waiting ∷ [])
-    ++ each offset_numbers f.offsets
-    ++ each plain f.notices
+abbrev pub facade_parts : Facade → List (List ℕ)
+facade_parts f =
+    config_row f.config
+    ∷ (f.time ∷ f.next ∷ f.waiting ∷ [])
+    ∷ flat_map offset_numbers f.offsets
+    ∷ flat_map (flat_map plain) f.notices
+    ∷ flat_map server_numbers f.servers
+    ∷ flat_map client_numbers f.clients
+    ∷ flat_map message_numbers f.messages
+    ∷ []
 
 unfoldable pub facade_numbers : Facade → List ℕ
-facade_numbers f =
-    times_numbers f
-    ++ each server_numbers f.servers
-    ++ each client_numbers f.clients
-    ++ each message_numbers f.messages
+facade_numbers f = concat (facade_parts f)
 
 unfoldable pub facade_at : List ℕ → ℕ → Facade
 facade_at l p = record {
@@ -213,7 +210,7 @@ facade_at l p = record {
   next = number_in l (p + 8);
   offsets = each_in offset_in 1 36 l (p + 10);
   servers = each_in server_in 423 4 l (p + 62);
-  notices = each_in number_in 1 16 l (p + 46);
+  notices = each_in (each_in number_in 1 4) 4 4 l (p + 46);
   clients = each_in client_in 4 32 l (p + 1754);
   messages = each_in message_in 7 128 l (p + 1882);
   waiting = number_in l (p + 9);

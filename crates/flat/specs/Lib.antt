@@ -1,3 +1,4 @@
 pub mod Blocks
+pub mod Pages
 pub mod Flat
 pub mod Shape

@@ -1,5 +1,5 @@
 -- What the types of the code say of a facade: the lengths of its arrays, and that an offset is a signed number of 32 bits.
-use Rattle.std.specs.Prelude.{◌≡◌, List, [], ◌∷◌, ℕ, length}
+use Rattle.std.specs.Prelude.{◌≡◌, List, ℕ, length, All}
 use Rattle.std.specs.Int.{w32}
 use Rattle.std.proofs.Common.{SFits}
 use Rattle.types.specs.declared.OpenWrite.{OpenWrite}
@@ -11,15 +11,10 @@ use Rattle.types.specs.declared.Facade.{Facade}
 abbrev pub Any : {A : Type 0} → A → Type 0
 Any x = Unit
 
--- P holds of each element
-abbrev pub Each : {A : Type 0} → (A → Type 0) → List A → Type 0
-Each P [] = Unit
-Each P (x ∷ xs) = P x × Each P xs
-
 -- so many elements, and P holds of each
 pub record Has {A : Type 0} (n : ℕ) (P : A → Type 0) (xs : List A) : Type 0 where
   pub many : length xs ≡ n
-  pub each : Each P xs
+  pub each : All P xs
 
 abbrev pub WriteShaped : OpenWrite → Type 0
 WriteShaped w = length w.acked ≡ 4
@@ -38,6 +33,6 @@ OutboxShaped o = length o.messages ≡ 4
 pub record FacadeShaped (f : Facade) : Type 0 where
   pub offsets : Has 36 (SFits w32) f.offsets
   pub servers : Has 4 ServerShaped f.servers
-  pub notices : length f.notices ≡ 16
+  pub notices : Has 4 (Has 4 Any) f.notices
   pub clients : length f.clients ≡ 32
   pub messages : length f.messages ≡ 128

@@ -20,15 +20,16 @@ fn read_one(from: &mut impl Read, list: &mut [u32]) -> io::Result<()> {
     Ok(())
 }
 
-// The next list, into one of zeros. Answers its length.
-fn read_list(from: &mut impl Read, list: &mut [u32]) -> io::Result<usize>
-    ensures { IfOk result (λ n. n ≤ length list.new) }
+// The next list, read into zeros.
+fn read_list<'a>(from: &mut impl Read, zeros: &'a mut [u32]) -> io::Result<&'a mut [u32]>
+    ensures { IfOk result (λ l. length l.now ≤ length zeros.old) }
 {
     let count = next_number(from, 0)?;
     for _ in 0..count {
-        read_one(from, list)?;
+        read_one(from, zeros)?;
     }
-    Ok((next_number(from, count)? as usize).min(list.len()))
+    let n = (next_number(from, count)? as usize).min(zeros.len());
+    Ok(&mut zeros[..n])
 }
 
 // The next step is taken of a list, and what it answers is printed.
@@ -54,12 +55,13 @@ fn print_changes(to: &mut impl Write, before: &[u32], list: &[u32]) -> io::Resul
 
 // The next list is read into one of zeros, and its step taken; `before` keeps it as it was. Its number is k.
 fn run_next(from: &mut impl Read, to: &mut impl Write, k: u32) -> io::Result<()> {
-    let mut list = [0u32; 2800];
-    let n = read_list(from, &mut list)?;
-    let before = list;
+    let mut numbers = [0u32; 2800];
+    let list = read_list(from, &mut numbers)?;
+    let mut before = [0u32; 2800];
+    before[..list.len()].copy_from_slice(list);
     write!(to, "{k}")?;
-    take_step(from, to, &mut list[..n])?;
-    print_changes(to, &before, &list)
+    take_step(from, to, list)?;
+    print_changes(to, &before, list)
 }
 
 fn main(rt: HostRuntime) -> io::Result<()> {

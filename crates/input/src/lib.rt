@@ -1,4 +1,4 @@
-// What the programs here do with their input: a stream read until a buffer is full, and numbers read from one; and an input that
+// What the programs here do with their input: a stream read until a buffer is full, and numbers read from one; and the example that
 // two of them have.
 #![tactic(auto)]
 
@@ -8,8 +8,20 @@ ghost use Rattle.std.specs.Io.KnownBytes.{Consumes, IsAtEnd};
 
 use std::io;
 use std::io::Read;
+use types::Config;
 
-// The steps of document 01's example, four numbers each: kind and fields.
+// The configuration of document 01's example.
+pub const EXAMPLE_CONFIG: Config = Config {
+    servers: 2,
+    clients: 1,
+    addresses: 1,
+    skew: 0,
+    detection: 5,
+    mclt: 4,
+    retention: 10,
+};
+
+// Its steps, four numbers each: kind and fields.
 pub const EXAMPLE: [[u32; 4]; 14] = [
     [1, 5, 0, 0],
     [4, 0, 1, 1],

@@ -3,10 +3,8 @@
 // edges, and the buffer after it.
 #![tactic(auto)]
 
-ghost use Rattle.std.specs.Prelude.{◌≡◌};
-ghost use Rattle.script.specs.Reading.{verdict as verdict'};
-
-use input::{EXAMPLE, read_full};
+use arith::number_of;
+use input::{EXAMPLE, EXAMPLE_CONFIG, read_full};
 use script::FIRST_RECORD;
 use std::fs::File;
 use std::io::Write;
@@ -16,21 +14,11 @@ use types::{Config, Refusal};
 // A pass of no time, then a step of no known kind: the first is refused.
 const TWO_WRONG: [u32; 8] = [1, 0, 0, 0, 99, 0, 0, 0];
 
-// The number of the verdict on a script, 0 if it is accepted.
-fn verdict(s: &[u8]) -> u32
-    ensures { result ≡ verdict' s.now }
-{
-    match script::verdict(s) {
-        Ok(()) => 0,
-        Err(n) => u32::from(n),
-    }
-}
-
 // The name of a script and its verdict.
 fn judge(to: &mut impl Write, name: &str, mut file: File) -> io::Result<()> {
     let mut bytes = [0u8; 65537];
     let k = read_full(&mut file, &mut bytes)?;
-    writeln!(to, "{name} {}", verdict(&bytes[..k]))
+    writeln!(to, "{name} {}", number_of(&script::verdict(&bytes[..k])))
 }
 
 // Bytes in hexadecimal, on one line.
@@ -47,8 +35,8 @@ fn print_steps(to: &mut impl Write, s: &[u8]) -> io::Result<()> {
     let mut p = FIRST_RECORD;
     // where the next record begins is known when this one is read, so this is no `for`
     while let Ok(r) = script::record_at(s, p) {
-        let x = r.step;
-        writeln!(to, "step {} {} {} {}", x.kind, x.first, x.second, x.third)?;
+        let [kind, first, second, third] = <[u32; 4]>::from(r.step);
+        writeln!(to, "step {kind} {first} {second} {third}")?;
         p = r.next;
     }
     Ok(())
@@ -56,10 +44,7 @@ fn print_steps(to: &mut impl Write, s: &[u8]) -> io::Result<()> {
 
 // What the writer answers: a refusal's number and length 0, or 0 and how long the script is.
 fn print_written(to: &mut impl Write, w: Result<usize, Refusal>) -> io::Result<()> {
-    match w {
-        Ok(length) => writeln!(to, "written 0 {length}"),
-        Err(n) => writeln!(to, "written {} 0", u32::from(n)),
-    }
+    writeln!(to, "written {} {}", number_of(&w), w.unwrap_or(0))
 }
 
 // Writes into the buffer and prints the answer and the bytes after it.
@@ -69,47 +54,50 @@ fn try_writer(to: &mut impl Write, c: Config, rows: &[u32], out: &mut [u8]) -> i
 }
 
 // The example of document 01.
-fn show_example(to: &mut impl Write, c: Config) -> io::Result<()> {
+fn show_example(to: &mut impl Write) -> io::Result<()> {
     let mut out = [0u8; 189];
-    try_writer(to, c, EXAMPLE.as_flattened(), &mut out)?;
-    writeln!(to, " {}", verdict(&out))?;
+    try_writer(to, EXAMPLE_CONFIG, EXAMPLE.as_flattened(), &mut out)?;
+    writeln!(to, " {}", number_of(&script::verdict(&out)))?;
     print_steps(to, &out)
 }
 
 // A buffer longer than the script, as long, and one byte short, with no step and with the example.
-fn show_room(to: &mut impl Write, c: Config) -> io::Result<()> {
+fn show_room(to: &mut impl Write) -> io::Result<()> {
     let none = [0u32; 0];
     let mut long = [170u8; 39];
-    try_writer(to, c, &none, &mut long)?;
+    try_writer(to, EXAMPLE_CONFIG, &none, &mut long)?;
     let mut fitting = [170u8; 29];
-    try_writer(to, c, &none, &mut fitting)?;
+    try_writer(to, EXAMPLE_CONFIG, &none, &mut fitting)?;
     let mut short = [170u8; 28];
-    try_writer(to, c, &none, &mut short)?;
+    try_writer(to, EXAMPLE_CONFIG, &none, &mut short)?;
     let mut shorter = [170u8; 188];
-    try_writer(to, c, EXAMPLE.as_flattened(), &mut shorter)?;
+    try_writer(to, EXAMPLE_CONFIG, EXAMPLE.as_flattened(), &mut shorter)?;
     Ok(())
 }
 
 // What is refused first, and a negative e.
-fn show_order(to: &mut impl Write, c: Config) -> io::Result<()> {
+fn show_order(to: &mut impl Write) -> io::Result<()> {
     let mut out = [170u8; 43];
-    try_writer(to, c, &TWO_WRONG, &mut out)?;
+    try_writer(to, EXAMPLE_CONFIG, &TWO_WRONG, &mut out)?;
     let unknown = [11, 0, 0, 0];
-    try_writer(to, c, &unknown, &mut out)?;
-    let bad = Config { servers: 5, ..c };
+    try_writer(to, EXAMPLE_CONFIG, &unknown, &mut out)?;
+    let bad = Config {
+        servers: 5,
+        ..EXAMPLE_CONFIG
+    };
     try_writer(to, bad, &TWO_WRONG, &mut out)?;
     let e = wire::complement(-3);
     let back = [1, 5, 0, e];
-    try_writer(to, c, &back, &mut out)?;
+    try_writer(to, EXAMPLE_CONFIG, &back, &mut out)?;
     Ok(())
 }
 
 // The most records that fit into 65,536 bytes, and one more.
-fn show_longest(to: &mut impl Write, c: Config) -> io::Result<()> {
+fn show_longest(to: &mut impl Write) -> io::Result<()> {
     let rows = [2u32; 43672];
     let mut out = [0u8; 70000];
-    print_written(to, writer::write(c, &rows[..43668], &mut out))?;
-    print_written(to, writer::write(c, &rows, &mut out))?;
+    print_written(to, writer::write(EXAMPLE_CONFIG, &rows[..43668], &mut out))?;
+    print_written(to, writer::write(EXAMPLE_CONFIG, &rows, &mut out))?;
     Ok(())
 }
 
@@ -119,17 +107,8 @@ fn main(rt: HostRuntime) -> io::Result<()> {
         let file = File::open(&rt, name.as_str())?;
         judge(&mut stdout, name.as_str(), file)?;
     }
-    let c = Config {
-        servers: 2,
-        clients: 1,
-        addresses: 1,
-        skew: 0,
-        detection: 5,
-        mclt: 4,
-        retention: 10,
-    };
-    show_example(&mut stdout, c)?;
-    show_room(&mut stdout, c)?;
-    show_order(&mut stdout, c)?;
-    show_longest(&mut stdout, c)
+    show_example(&mut stdout)?;
+    show_room(&mut stdout)?;
+    show_order(&mut stdout)?;
+    show_longest(&mut stdout)
 }

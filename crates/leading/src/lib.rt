@@ -1,5 +1,6 @@
 // Whether a server leads an address after a notice, and its record then: c is the configuration, k the server's number, r its
-// clock reading, b the set of servers that it now believes live.
+// clock reading, b the set of servers that it now believes live. They stand side by side, and not in a `ServerAt`: `may_lead` takes
+// any reading and `raised` no number.
 #![tactic(auto)]
 
 ghost use Rattle.std.specs.Prelude.{◌≡◌, ◌+◌, ◌%◌, ◌≤◌, ◌<◌};
@@ -54,8 +55,8 @@ pub fn may_lead(
     requires { (k < c.servers) × (a < c.servers) }
     ensures { result ≡ may_lead c k r returned before b a }
 {
-    let due = returned as u64 + (2 * c.config.detection + 2 * c.config.skew) as u64;
-    is_first(c.config.servers, a, k, b) && (before || due <= r as u64)
+    let due = u64::from(returned) + u64::from(2 * c.config.detection + 2 * c.config.skew);
+    is_first(c.config.servers, a, k, b) && (before || due <= u64::from(r))
 }
 
 // The record of an address, v before, by whether it led it before and leads it now.

@@ -1,26 +1,24 @@
-// What a server does with a discover, a request and a renewal: c is the configuration, k the server's number, r its clock
-// reading and b what it keeps for the address a.
-// The message comes from party p in interaction q.
+// What a server does with a discover, a request and a renewal: b is what it keeps for the address that the message is about; c is
+// the configuration, k the server's number and r its clock reading, or `who` is all three.
 #![tactic(auto)]
 
-ghost use Rattle.std.specs.Prelude.{◌≡◌, ◌≤◌, ◌<◌, Option};
+ghost use Rattle.std.specs.Prelude.{◌≡◌, ◌≤◌, Option};
 ghost use Rattle.rules.specs.Parts.{message};
 ghost use Rattle.types.specs.declared.Reservation.{Reservation};
 ghost use Rattle.rules.specs.Messages.{nothing as nothing', post as post', to_others};
 ghost use Rattle.rules.specs.Server.{has_passed, is_free, may_offer, on_discover, lowest_offerable, granted as granted', on_request, reservations_by, freed_if_of, on_renew};
-ghost use Rattle.rules.specs.Ranges.{last_reading};
 
-use outbox::{nothing, post, to_others, unmet};
-use ranges::InRange;
+use outbox::{nothing, post, reply, to_others, unmet};
+use ranges::{InRange, ServerAt};
 use types::{
-    Binding, Body, Config, Message, OpenWrite, Outbox, Outcome, Pending, Reaction, Reservation,
+    Binding, Body, Matter, Message, OpenWrite, Outbox, Outcome, Pending, Reaction, Reservation,
 };
 
 // Whether the record v has passed by more than 2Δ.
 fn has_passed(c: InRange, r: u32, v: u32) -> bool
     ensures { result ≡ has_passed c r v }
 {
-    (v as u64) + ((2 * c.config.skew) as u64) < (r as u64)
+    u64::from(v) + u64::from(2 * c.config.skew) < u64::from(r)
 }
 
 // Whether an address may be offered: led, not reserved, and its record v has passed.
@@ -32,7 +30,8 @@ fn may_offer(c: InRange, r: u32, leads: bool, reserved: Option<Reservation>, v: 
 }
 
 // The lowest address that may be offered, by what a server leads, reserves and has on record; 0 where there is none.
-// No `Option`: `on_discover` tests address 0 again, where the test failed, so a `None` would get the same answer.
+// No `Option`: `on_discover` tests address 0 again, where the test failed, so a `None` would get the same answer. Three arrays, and
+// no `Server`: they are all of one that the rule looks at.
 pub fn lowest_offerable(
     c: InRange,
     r: u32,
@@ -50,32 +49,19 @@ pub fn lowest_offerable(
         .unwrap_or(0)
 }
 
-// Address a, if it may be offered, is reserved for q and offered.
+// The address, if it may be offered, is reserved for the interaction and offered. No `ServerAt`: it takes any number and reading.
 #[tactic(auto, unfolding(rules::specs::Server::on_discover, rules::specs::Server::offerable, rules::specs::Server::offered))]
-pub fn on_discover(
-    c: InRange,
-    k: u32,
-    r: u32,
-    b: Binding,
-    p: u32,
-    q: u32,
-    a: u32,
-) -> Reaction<Binding>
-    ensures { result ≡ on_discover c k r b p q a }
+pub fn on_discover(c: InRange, k: u32, r: u32, b: Binding, matter: Matter) -> Reaction<Binding>
+    ensures { result ≡ on_discover c k r b matter.party matter.interaction matter.address }
 {
     if !may_offer(c, r, b.leads, b.reserved, b.potlease) {
         return unmet(b);
     }
     let reservation = Reservation {
-        interaction: q,
+        interaction: matter.interaction,
         reading: r,
     };
-    let offer = Message {
-        sender: k,
-        receiver: p,
-        interaction: q,
-        body: Body::Offer(a),
-    };
+    let offer = reply(k, matter, Body::Offer(matter.address));
     Reaction {
         after: Binding {
             reserved: Some(reservation),
@@ -87,45 +73,30 @@ pub fn on_discover(
 }
 
 // The ack with the lent end, then the writes to every other server.
-fn lease_messages(c: Config, k: u32, p: u32, q: u32, a: u32, l: u32, v: u32) -> Outbox
-    requires { c.servers ≤ 4 }
-    ensures { result ≡ to_others k (λ j. message k j q (Body.Write a v)) c.servers (post' nothing' (message k p q (Body.Ack a l))) }
+fn lease_messages(who: ServerAt, matter: Matter, l: u32, v: u32) -> Outbox
+    ensures { result ≡ to_others who.number (λ j. message who.number j matter.interaction (Body.Write matter.address v)) who.config.servers (post' nothing' (message who.number matter.party matter.interaction (Body.Ack matter.address l))) }
 {
-    let ack = Message {
-        sender: k,
-        receiver: p,
-        interaction: q,
-        body: Body::Ack(a, l),
-    };
+    let ack = reply(who.number, matter, Body::Ack(matter.address, l));
     let write = Message {
-        body: Body::Write(a, v),
+        body: Body::Write(matter.address, v),
         ..ack
     };
-    to_others(k, write, c.servers, post(nothing(), ack))
+    let sent = post(nothing(), ack);
+    to_others(who.number, write, who.config.servers, sent)
 }
 
-// Address a is lent until l, and t was wanted: v is for the others to record.
+// The address is lent until l, and t was wanted: v is for the others to record.
 #[tactic(auto, unfolding(rules::specs::Server::granted))]
-fn granted(
-    c: InRange,
-    k: u32,
-    b: Binding,
-    p: u32,
-    q: u32,
-    a: u32,
-    t: u32,
-    l: u32,
-) -> Reaction<Binding>
-    requires { k < c.servers }
-    ensures { result ≡ granted' c k b p q a t l }
+fn granted(who: ServerAt, b: Binding, matter: Matter, t: u32, l: u32) -> Reaction<Binding>
+    ensures { result ≡ granted' who.config who.number b matter.party matter.interaction matter.address t l }
 {
     let v = t.max(l);
     let asked = Pending {
-        interaction: q,
+        interaction: matter.interaction,
         end: v,
     };
     let mut itself = [false; 4];
-    itself[k as usize] = true;
+    itself[who.number as usize] = true;
     Reaction {
         after: Binding {
             lent: l,
@@ -137,7 +108,7 @@ fn granted(
             ..b
         },
         outcome: Outcome::Done,
-        outbox: lease_messages(c.config, k, p, q, a, l, v),
+        outbox: lease_messages(who, matter, l, v),
     }
 }
 
@@ -174,45 +145,25 @@ pub fn drop_reservations(n: u32, q: u32, rs: [Option<Reservation>; 32]) -> [Opti
     reservations_by(|x| freed_if_of(q, x), n, rs)
 }
 
-// A request for address a until t, when the reservations of q are dropped.
+// A request for the address until t, when the reservations of the interaction are dropped.
 #[tactic(auto, using(rules::proofs::Laws::tests), unfolding(rules::specs::Server::on_request, rules::specs::Server::grantable))]
-pub fn on_request(
-    c: InRange,
-    k: u32,
-    r: u32,
-    b: Binding,
-    p: u32,
-    q: u32,
-    a: u32,
-    t: u32,
-) -> Reaction<Binding>
-    requires { (k < c.servers) × (r ≤ last_reading) }
-    ensures { result ≡ on_request c k r b p q a t }
+pub fn on_request(who: ServerAt, b: Binding, matter: Matter, t: u32) -> Reaction<Binding>
+    ensures { result ≡ on_request who.config who.number who.reading b matter.party matter.interaction matter.address t }
 {
-    if b.leads && has_passed(c, r, b.potlease) {
-        return granted(c, k, b, p, q, a, t, r + c.config.mclt);
+    if b.leads && has_passed(who.known(), who.reading, b.potlease) {
+        return granted(who, b, matter, t, who.reading + who.config.mclt);
     }
     unmet(b)
 }
 
-// A renewal of address a with the old end e.
+// A renewal of the address with the old end e.
 #[tactic(auto, using(rules::proofs::Laws::tests), unfolding(rules::specs::Server::on_renew))]
-pub fn on_renew(
-    c: InRange,
-    k: u32,
-    r: u32,
-    b: Binding,
-    p: u32,
-    q: u32,
-    a: u32,
-    e: u32,
-    t: u32,
-) -> Reaction<Binding>
-    requires { (k < c.servers) × (r ≤ last_reading) }
-    ensures { result ≡ on_renew c k r b p q a e t }
+pub fn on_renew(who: ServerAt, b: Binding, matter: Matter, e: u32, t: u32) -> Reaction<Binding>
+    ensures { result ≡ on_renew who.config who.number who.reading b matter.party matter.interaction matter.address e t }
 {
-    if b.leads && r <= e {
-        return granted(c, k, b, p, q, a, t, b.lent.max(r + c.config.mclt));
+    if b.leads && who.reading <= e {
+        let l = b.lent.max(who.reading + who.config.mclt);
+        return granted(who, b, matter, t, l);
     }
     unmet(b)
 }

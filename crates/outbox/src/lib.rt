@@ -6,7 +6,7 @@ ghost use Rattle.types.specs.declared.Outcome.TheVariants.{Done, Unmet};
 ghost use Rattle.rules.specs.Parts.{message, no_message};
 ghost use Rattle.rules.specs.Messages.{nothing as nothing', answer, post as post', to_servers, to_each, to_others};
 
-use types::{Body, Message, Outbox, Outcome, Reaction};
+use types::{Body, Matter, Message, Outbox, Outcome, Reaction};
 
 // No message: what an unused place holds.
 pub fn no_message() -> Message
@@ -17,6 +17,18 @@ pub fn no_message() -> Message
         receiver: 0,
         interaction: 0,
         body: Body::Empty,
+    }
+}
+
+// What server k says to the sender of a message, in the interaction of that.
+pub fn reply(k: u32, matter: Matter, body: Body) -> Message
+    ensures { result ≡ message k matter.party matter.interaction body }
+{
+    Message {
+        sender: k,
+        receiver: matter.party,
+        interaction: matter.interaction,
+        body,
     }
 }
 

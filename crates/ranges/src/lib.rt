@@ -4,8 +4,8 @@
 ghost use Rattle.std.specs.Prelude.{◌≡◌, ◌≤◌, ◌<◌, true, false, leb, get_or, MatchResult};
 ghost use Rattle.types.specs.declared.Refusal.TheVariants.{OutOfRange};
 ghost use Rattle.rules.specs.Conditions.{◌and◌, is_within, all};
-ghost use Rattle.rules.specs.Parts.{server_at, state_at, message_at, offset_at, offset_of, no_server, no_client, no_message, parties};
-ghost use Rattle.rules.specs.Ranges.{config_in_range, interaction_in_range, offset_in_range, reservation_in_range, write_in_range, address_in_range, server_in_range, notice_in_range, state_in_range, is_client, body_in_range, message_in_range, in_range, last_time, after_last, most_waiting};
+ghost use Rattle.rules.specs.Parts.{server_at, state_at, message_at, offset_at, offset_of, notice_in, notice_at, no_server, no_client, no_message, parties};
+ghost use Rattle.rules.specs.Ranges.{config_in_range, interaction_in_range, offset_in_range, reservation_in_range, write_in_range, address_in_range, server_in_range, notice_in_range, state_in_range, is_client, body_in_range, message_in_range, in_range, last_time, last_reading, after_last, most_waiting};
 ghost use Rattle.rules.proofs.Kept.{Configured};
 
 use arith::{check, not_negative};
@@ -32,6 +32,39 @@ impl Model for InRange {
     ghost invariant = { λ a. Configured a.config };
 
     ghost inverse = { λ c. record { config = c } };
+}
+
+// A server that the configuration has, at its clock reading. For what asks for all three; a function that takes any number or any
+// reading has them side by side. The configuration is no `InRange` here: a struct with such a field cannot yet be handed on and read
+// after it.
+#[derive(Clone, Copy)]
+pub struct ServerAt {
+    pub config: Config,
+    pub number: u32,
+    pub reading: u32,
+    ghost in_range: { Configured config },
+    ghost exists: { number < config.servers },
+    ghost timely: { reading ≤ last_reading },
+}
+
+impl ServerAt {
+    // Its configuration, which is in range.
+    pub fn known(self) -> InRange
+        ensures { result ≡ self.config }
+    {
+        InRange {
+            config: self.config,
+        }
+    }
+}
+
+// A client that the configuration has.
+#[derive(Clone, Copy)]
+pub struct ClientOf {
+    pub config: Config,
+    pub number: u32,
+    ghost in_range: { Configured config },
+    ghost exists: { number < config.clients },
 }
 
 // Whether the numbers of servers, clients and addresses are in range. At two tests by `contains` in a row the search gives up.
@@ -93,24 +126,19 @@ fn offset_in_range(c: Config, t: u32, o: i32) -> bool
     o.unsigned_abs() <= c.skew && not_negative(t, o)
 }
 
+// This and the next share one call, and are a line each.
 #[tactic(auto, using(rules::proofs::Laws::tests), unfolding(rules::specs::Ranges::reservation_in_range))]
 fn reservation_in_range(n: u32, x: Option<Reservation>) -> bool
     ensures { result ≡ reservation_in_range n x }
 {
-    match x {
-        None => true,
-        Some(x) => interaction_in_range(n, x.interaction) && x.reading <= LAST_READING,
-    }
+    x.is_none_or(|x| interaction_in_range(n, x.interaction) && x.reading <= LAST_READING)
 }
 
 #[tactic(auto, using(rules::proofs::Laws::tests), unfolding(rules::specs::Ranges::write_in_range))]
 fn write_in_range(n: u32, x: Option<Pending>) -> bool
     ensures { result ≡ write_in_range n x }
 {
-    match x {
-        None => true,
-        Some(x) => interaction_in_range(n, x.interaction) && x.end <= LAST_END,
-    }
+    x.is_none_or(|x| interaction_in_range(n, x.interaction) && x.end <= LAST_END)
 }
 
 // What a server stores for address a.
@@ -126,6 +154,7 @@ fn address_in_range(n: u32, s: Server, a: u32) -> bool
         && write_in_range(n, s.writes[at].pending)
 }
 
+// A clause here and below, and no `InRange`: no more is asked of the configuration.
 fn addresses_in_range(c: Config, n: u32, s: Server) -> bool
     requires { c.addresses ≤ 32 }
     ensures { result ≡ all (address_in_range n s) c.addresses }
@@ -195,6 +224,7 @@ pub fn message_in_range(c: InRange, n: u32, m: Message) -> bool
     interaction_in_range(n, m.interaction) && body_in_range(c, m.sender, m.receiver, m.body)
 }
 
+// These and the clients and messages below are a chain each: one function over a test would promise in more words what they say.
 fn offsets_in_range(c: InRange, t: u32, os: &[i32; 36]) -> bool
     ensures { result ≡ all (λ p. offset_in_range c t (offset_of os.now p)) (parties c) }
 {
@@ -211,28 +241,33 @@ fn servers_in_range(c: InRange, t: u32, n: u32, ss: &[Server; 4]) -> bool
         .all(|s| server_in_range(c.config, t, n, *s))
 }
 
-// The notice time of server k about server j.
+// The time h of the last notice that server k had about server j.
 #[tactic(auto, using(rules::proofs::Laws::tests), unfolding(rules::specs::Ranges::notice_in_range))]
-fn notice_in_range(f: &Facade, k: u32, j: u32) -> bool
-    requires { (k < 4) × (j < 4) }
-    ensures { result ≡ notice_in_range f.now k j }
+fn notice_in_range(t: u32, k: usize, j: usize, h: u32) -> bool
+    ensures { result ≡ notice_in_range t k j h }
 {
-    j == k || f.notices[(k * 4 + j) as usize] <= f.time
+    j == k || h <= t
 }
 
 // The notice times of server k.
-fn row_in_range(f: &Facade, k: u32) -> bool
-    requires { (f.now.config.servers ≤ 4) × (k < 4) }
-    ensures { result ≡ all (notice_in_range f.now k) f.now.config.servers }
+fn row_in_range(c: InRange, t: u32, k: usize, row: &[u32; 4]) -> bool
+    ensures { result ≡ all (λ j. notice_in_range t k j (get_or row.now j 0)) c.servers }
 {
-    (0..f.config.servers).all(|j| notice_in_range(f, k, j))
+    let count = c.config.servers as usize;
+    row[..count]
+        .iter()
+        .enumerate()
+        .all(|(j, h)| notice_in_range(t, k, j, *h))
 }
 
-fn notices_in_range(f: &Facade) -> bool
-    requires { f.now.config.servers ≤ 4 }
-    ensures { result ≡ all (λ k. all (notice_in_range f.now k) f.now.config.servers) f.now.config.servers }
+fn notices_in_range(c: InRange, t: u32, ts: &[[u32; 4]; 4]) -> bool
+    ensures { result ≡ all (λ k. all (λ j. notice_in_range t k j (notice_in ts.now k j)) c.servers) c.servers }
 {
-    (0..f.config.servers).all(|k| row_in_range(f, k))
+    let count = c.config.servers as usize;
+    ts[..count]
+        .iter()
+        .enumerate()
+        .all(|(k, row)| row_in_range(c, t, k, row))
 }
 
 fn clients_in_range(c: InRange, n: u32, ys: &[Client; 32]) -> bool
@@ -259,14 +294,14 @@ fn places_in_range(f: &Facade) -> bool
     requires { Configured f.now.config × (f.now.waiting ≤ 128) }
     ensures { result ≡ (all (λ p. offset_in_range f.now.config f.now.time (offset_at f.now p)) (parties f.now.config)
         and all (λ k. server_in_range f.now.config f.now.time f.now.next (server_at f.now k)) f.now.config.servers
-        and all (λ k. all (notice_in_range f.now k) f.now.config.servers) f.now.config.servers
+        and all (λ k. all (λ j. notice_in_range f.now.time k j (notice_at f.now k j)) f.now.config.servers) f.now.config.servers
         and all (λ i. state_in_range f.now.config f.now.next (state_at f.now i)) f.now.config.clients
         and all (λ p. message_in_range f.now.config f.now.next (message_at f.now p)) f.now.waiting) }
 {
     let c = InRange { config: f.config };
     offsets_in_range(c, f.time, &f.offsets)
         && servers_in_range(c, f.time, f.next, &f.servers)
-        && notices_in_range(f)
+        && notices_in_range(c, f.time, &f.notices)
         && clients_in_range(c, f.next, &f.clients)
         && messages_in_range(c, f.next, f.waiting, &f.messages)
 }

@@ -6,12 +6,11 @@ use Prim.Native.Nat.{ℕ, zero, suc, ◌+◌, ◌-◌, ◌≤◌, ◌<◌}
 use native.Mathlib.Numerals.{add-one}
 use native.Mathlib.Nat.{zero-add}
 use native.Mathlib.Omega.{arith}
-use lib.Dec.{leb}
 use lib.ListN.{length, take, drop}
 use lib.Seq.{take-append_seam}
 use Rattle.types.specs.declared.Facade.{Facade}
 use Rattle.rules.specs.Answers.{Answer}
-use Rattle.rules.specs.Steps.{step, held_clients}
+use Rattle.rules.specs.Steps.{step}
 use Rattle.rules.proofs.Laws.{cond_case, not_eqb}
 use Rattle.std.specs.Borrow.{MutBor}
 use Rattle.wire.specs.declared.Page.{Page}
@@ -46,7 +45,7 @@ pieces_join s (suc n) m f p k = rw (one_more n m) (go (pieces_join s n m x.facad
   x = step f r.step
 
   last : List ℕ
-  last = last_lines (leb (length s) p) k f.time f.waiting (held_clients f)
+  last = last_lines f s p k
 
   line : List ℕ
   line = answer_line k x

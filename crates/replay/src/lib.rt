@@ -8,7 +8,7 @@ ghost use Rattle.turns.specs.Turns.{lines_from, progress_from, UnderWay};
 ghost use Rattle.replay.specs.Output.{first_line, beginning, output, output_length, output_into, piece_turns, most_piece};
 
 use facade::fresh;
-use report::{put_facade_line, put_record_line};
+use report::{put_facade_line, put_result_line};
 use script::{FIRST_RECORD, config_in, header_in};
 use turns::{Progress, put_turns};
 use types::Config;
@@ -36,7 +36,7 @@ fn put_first_line(s: &[u8], page: &mut Page)
 {
     match header_in(s) {
         Ok(c) => put_facade_line(page, c),
-        Err(n) => put_record_line(page, 0, u32::from(n), 0, 0, 0),
+        Err(n) => put_result_line(page, 0, Err(n), 0, 0),
     }
 }
 

@@ -3,8 +3,7 @@
 // up to the first that is refused with 3.
 #![tactic(auto)]
 
-ghost use Rattle.std.specs.Prelude.{◌≤◌, length};
-
+use arith::number_of;
 use input::read_full;
 use script::FIRST_RECORD;
 use std::io;
@@ -12,20 +11,17 @@ use std::io::Write;
 use types::Config;
 
 // The steps of a script in rows of four numbers, up to the first record that is refused with 3, as every place from the script's
-// end on is, or as many as there is room for. Answers how many rows they are.
-fn read_rows(s: &[u8], rows: &mut [[u32; 4]]) -> usize
-    ensures { result ≤ length rows.new }
-{
+// end on is, or as many as there is room for.
+fn read_rows<'a>(s: &[u8], rows: &'a mut [[u32; 4]]) -> &'a [[u32; 4]] {
     let mut p = FIRST_RECORD;
     for (n, row) in rows.iter_mut().enumerate() {
         let Ok(r) = script::record_at(s, p) else {
-            return n;
+            return &rows[..n];
         };
-        let x = r.step;
-        *row = [x.kind, x.first, x.second, x.third];
+        *row = r.step.into();
         p = r.next;
     }
-    rows.len()
+    rows
 }
 
 // Writes the script of c and the rows into the buffer, and prints what the writer answers and what it wrote.
@@ -36,13 +32,10 @@ fn print_again(
     rows: &[[u32; 4]],
     out: &mut [u8],
 ) -> io::Result<()> {
-    match writer::write(c, rows.as_flattened(), out) {
-        Ok(length) => {
-            writeln!(to, "0 {length}")?;
-            to.write_all(&out[..length])
-        }
-        Err(n) => writeln!(to, "{} 0", u32::from(n)),
-    }
+    let x = writer::write(c, rows.as_flattened(), out);
+    let length = x.unwrap_or(0);
+    writeln!(to, "{} {length}", number_of(&x))?;
+    to.write_all(&out[..length])
 }
 
 fn main(rt: HostRuntime) -> io::Result<()> {
@@ -50,12 +43,10 @@ fn main(rt: HostRuntime) -> io::Result<()> {
     let mut script = [0u8; 65537];
     let n = read_full(&mut rt.stdin(), &mut script)?;
     let s = &script[..n];
-    let verdict = script::verdict(s).err().map_or(0, u32::from);
     let mut stdout = rt.stdout();
-    writeln!(stdout, "{verdict}")?;
+    writeln!(stdout, "{}", number_of(&script::verdict(s)))?;
     let c = script::config_in(s).unwrap_or_default();
     let mut rows = [[0u32; 4]; 32768];
-    let k = read_rows(s, &mut rows);
     let mut out = [0u8; 65536];
-    print_again(&mut stdout, c, &rows[..k], &mut out)
+    print_again(&mut stdout, c, read_rows(s, &mut rows), &mut out)
 }

@@ -1,18 +1,22 @@
 -- Laws of steps in rows: their first refusal and their records.
 use mathlib.Core.Path.{◌≡◌, refl, sym, ap, ◌∙◌}
-use mathlib.Core.List.{List, [], ◌∷◌, ◌++◌, append_assoc, append-nil}
+use mathlib.Core.List.{List, [], ◌∷◌, ◌++◌, map, append_assoc, append-nil}
 use Prim.Native.Nat.{ℕ, zero, suc, ◌+◌, ◌-◌, ◌*◌, ◌/◌, ◌≤◌, ◌<◌}
-use native.Mathlib.Nat.{add-zero, add-suc}
+use native.Mathlib.Nat.{zero-add, add-zero, add-suc}
 use native.Mathlib.Omega.{arith}
 use borrow.Author.Tests.{ne_eqb}
-use lib.ListN.{length, length-append}
+use lib.ListN.{length, get_or, length-append}
+use Rattle.std.specs.List.{fold, sum_by}
+use Rattle.std.specs.Simd.{first_chunks}
 use Rattle.types.specs.declared.Step.{Step}
-use Rattle.script.specs.Layout.{step_refusal, record_of, records_of}
+use Rattle.script.specs.Layout.{fields_of, step_refusal, record_of, records_of}
 use Rattle.script.specs.Reading.{or_else}
 use Rattle.script.specs.Writing.{row_at, rows, steps_in, steps_refusal}
 use Rattle.script.proofs.Canonical.{few_fields}
 use Rattle.script.proofs.Tests.{none_met}
 use Rattle.script.proofs.Records.{record_length}
+use Rattle.script.proofs.Rows.{fours_are}
+use Rattle.types.specs.Rows.{step_from}
 
 -- a refusal, or else another
 
@@ -131,6 +135,18 @@ module _ (l : List ℕ) (k : ℕ) where
     room_at =
         let e = ap (λ (ss : List Step). length (records_of ss)) split ∙ ap length (records_append (rows l (k + 1)) rest) in
         omega (arith, next_length, e, length-append (records_of (rows l (k + 1))) (records_of rest))
+
+-- how many bytes the record of a row has, and the records of all
+abbrev pub size_of : List ℕ → ℕ
+size_of r = 2 + 4 * fields_of (get_or r 0 0)
+
+sizes : (n : ℕ) (xs : List (List ℕ)) → fold (λ a r. a + size_of r) n xs ≡ n + length (records_of (map step_from xs))
+unfolding records_of
+sizes n [] = omega arith
+sizes n (x ∷ xs) = omega (arith, sizes (n + size_of x) xs, record_length (step_from x), length-append (record_of (step_from x)) (records_of (map step_from xs)))
+
+pub sizes_are : (l : List ℕ) (xs : List (List ℕ)) → xs ≡ first_chunks 4 (length l / 4) l → sum_by size_of xs ≡ length (records_of (steps_in l))
+sizes_are l xs e = sizes 0 xs ∙ rw (zero-add, e) (ap (λ (ss : List Step). length (records_of ss)) (fours_are (length l / 4) l (omega arith)))
 
 -- a record has at most three fields, and so 14 bytes
 record_high : (s : Step) → length (record_of s) ≤ 14

@@ -2,7 +2,7 @@
 use mathlib.Core.Path.{◌≡◌, refl}
 use mathlib.Core.Bool.{Bool, true, false, cond}
 use mathlib.Core.Logic.{◌≢◌}
-use mathlib.Core.List.{List}
+use mathlib.Core.List.{List, []}
 use Prim.Native.Nat.{ℕ, ◌+◌, ◌≤◌, ◌<◌}
 use native.Mathlib.Omega.{arith}
 use native.Mathlib.Decide.{ℕ_discrete}
@@ -15,8 +15,8 @@ use Rattle.types.specs.declared.Body.{Body}
 use Rattle.types.specs.declared.Body.TheVariants.{Empty, Discover, Offer, Request, Renew, Write, WriteAck, Ack}
 use Rattle.types.specs.declared.Message.{Message}
 use Rattle.types.specs.declared.Facade.{Facade}
-use Rattle.rules.specs.Conditions.{is_within, all}
-use Rattle.rules.specs.Parts.{no_server, parties, server_at, state_at, message_at, offset_at, notice_at}
+use Rattle.rules.specs.Conditions.{is_within}
+use Rattle.rules.specs.Parts.{no_server, parties, server_at, state_at, message_at, offset_at, notice_in, notice_at}
 use Rattle.rules.specs.Answers.{Answer}
 use Rattle.std.specs.Prelude.{Option}
 use Rattle.types.specs.declared.Config.{Config}
@@ -25,7 +25,7 @@ use Rattle.rules.specs.Views.{whole}
 use Rattle.rules.specs.Ranges.{config_in_range, offset_in_range, server_in_range, notice_in_range, state_in_range, body_in_range, message_in_range, in_range, last_time, last_interaction, most_waiting}
 use Rattle.rules.specs.Server.{lowest_offerable, address_for}
 use Rattle.rules.specs.Steps.{fresh_server, Action, deliver, delivered, deed_of, takes_out, position, taken_out, enacted, is_known, fields_in_range, exists, state_allows, of_pass, time_left, clock_allows, in_touch, of_notice, is_credible, interaction_left, effect, broken, refusal, malformed, barred}
-use Rattle.rules.proofs.Laws.{and_l, and_r, and_both, or_elim, or_l, or_r, within_low, within_high, unless_ok, all_at, all_by}
+use Rattle.rules.proofs.Laws.{and_l, and_r, and_both, or_elim, or_l, or_r, within_low, within_high, unless_ok, all_at, all_by, rep_ind}
 use Rattle.rules.proofs.Cable.{Waits}
 
 -- A configuration in range.
@@ -67,6 +67,10 @@ configured c t =
 pub of_fresh : (c : Config) → Configured c → (P : Server → Type 0) (k : ℕ) → k < c.servers → P fresh_server → P (get_or (replicate 4 fresh_server) k no_server)
 of_fresh c ok P k h p = rw (get_or-replicate 4 k fresh_server no_server (omega (arith, ok.servers_high))) p
 
+-- nobody has had a notice in a fresh facade
+pub none_heard : (k j : ℕ) → notice_in (replicate 4 (replicate 4 0)) k j ≡ 0
+none_heard k j = rep_ind (λ row. get_or row j 0 ≡ 0) 4 (replicate 4 0) [] k (rep_ind (λ t. t ≡ 0) 4 0 0 j refl refl) refl
+
 -- A facade in range: the same as the test, part by part.
 
 pub record Ranged (f : Facade) : Type 0 where
@@ -81,14 +85,14 @@ pub record Ranged (f : Facade) : Type 0 where
   pub client : (i : ℕ) → i < f.config.clients → T (state_in_range f.config f.next (state_at f i))
   pub message : (m : Message) → Waits f m → T (message_in_range f.config f.next m)
 
-notice_of : (f : Facade) (k j : ℕ) → T (notice_in_range f k j) → j ≢ k → notice_at f k j ≤ f.time
+notice_of : (t k j h : ℕ) → T (notice_in_range t k j h) → j ≢ k → h ≤ t
 unfolding notice_in_range
-notice_of f k j t ne = or_elim (eqb j k) (leb (notice_at f k j) f.time) t (λ e. absurd (ne (eqb→eq j k e))) (leb→le (notice_at f k j) f.time)
+notice_of t k j h x ne = or_elim (eqb j k) (leb h t) x (λ e. absurd (ne (eqb→eq j k e))) (leb→le h t)
 
-to_notice : (f : Facade) (k j : ℕ) → (j ≢ k → notice_at f k j ≤ f.time) → Dec (j ≡ k) → T (notice_in_range f k j)
+to_notice : (t k j h : ℕ) → (j ≢ k → h ≤ t) → Dec (j ≡ k) → T (notice_in_range t k j h)
 unfolding notice_in_range
-to_notice f k j h (yes e) = or_l (eqb j k) _ (rw e (eqb_refl k))
-to_notice f k j h (no ne) = or_r (eqb j k) (leb (notice_at f k j) f.time) (le→leb (notice_at f k j) f.time (h ne))
+to_notice t k j h x (yes e) = or_l (eqb j k) _ (rw e (eqb_refl k))
+to_notice t k j h x (no ne) = or_r (eqb j k) (leb h t) (le→leb h t (x ne))
 
 pub ranged : (f : Facade) → T (in_range f) → Ranged f
 unfolding in_range
@@ -103,7 +107,7 @@ ranged f t =
       waiting = leb→le f.waiting most_waiting (and_l _ _ t₄);
       offset = all_at _ _ (and_l _ _ t₅);
       server = all_at _ _ (and_l _ _ t₆);
-      notice = λ k j h h' ne. notice_of f k j (all_at (notice_in_range f k) _ (all_at (λ k. all (notice_in_range f k) f.config.servers) _ (and_l _ _ t₇) k h) j h') ne;
+      notice = λ k j h h'. notice_of f.time k j _ (all_at _ _ (all_at _ _ (and_l _ _ t₇) k h) j h');
       client = all_at _ _ (and_l _ _ t₈);
       message = λ m x. rw x.is at (all_at (λ p. message_in_range f.config f.next (message_at f p)) f.waiting (and_r _ _ t₈) x.at x.below);
     }
@@ -117,7 +121,7 @@ in_range_lem f v =
     (and_both (leb f.waiting most_waiting) _ (le→leb f.waiting most_waiting v.waiting)
     (and_both _ _ (all_by _ _ v.offset)
     (and_both _ _ (all_by _ _ v.server)
-    (and_both _ _ (all_by _ _ (λ k h. all_by _ _ (λ j h'. to_notice f k j (v.notice k j h h') (ℕ_discrete j k))))
+    (and_both _ _ (all_by _ _ (λ k h. all_by _ _ (λ j h'. to_notice f.time k j _ (v.notice k j h h') (ℕ_discrete j k))))
     (and_both _ _ (all_by _ _ v.client)
     (all_by _ _ (λ p h. v.message (message_at f p) (record { at = p; below = h; is = refl }))))))))))
 

@@ -1,10 +1,9 @@
 -- Laws of the tests and repetitions that the rules are written with, and of lists with a place replaced.
-use mathlib.Core.Path.{◌≡◌, refl, ap, ◌∙◌}
+use mathlib.Core.Path.{◌≡◌, refl, ◌∙◌}
 use mathlib.Core.Logic.{◌≢◌}
 use mathlib.Core.Bool.{Bool, true, false, not, cond}
 use mathlib.Core.List.{List}
-use Prim.Native.Nat.{ℕ, zero, suc, ◌+◌, ◌≤◌, ◌<◌}
-use native.Mathlib.Numerals.{add-one}
+use Prim.Native.Nat.{ℕ, zero, suc, ◌≤◌, ◌<◌}
 use native.Mathlib.Nat.{not-suc-le-zero}
 use native.Mathlib.Omega.{arith}
 use native.Mathlib.Decide.{ℕ_discrete, dec_lt}
@@ -111,15 +110,6 @@ pub all_by : (p : ℕ → Bool) (n : ℕ) → ((i : ℕ) → i < n → T (p i)) 
 unfolding all
 all_by p zero f = tt
 all_by p (suc n) f = and_both (p n) (all p n) (f n (omega arith)) (all_by p n (λ i h. f i (omega arith)))
-
--- One turn more of a loop that tests each number.
-
-pub all_more : (p : ℕ → Bool) (n : ℕ) (x y z : Bool) → x ≡ p n → y ≡ all p n → z ≡ (x and y) → z ≡ all p (n + 1)
-unfolding all
-all_more p n x y z e h q = rw add-one (rw (← e, ← h) q)
-
-pub all_done : (p : ℕ → Bool) (i n : ℕ) (ok : Bool) → i ≡ n → ok ≡ all p i → ok ≡ all p n
-all_done p i n ok h e = e ∙ ap (all p) h
 
 -- Lists.
 

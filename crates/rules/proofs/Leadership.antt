@@ -3,12 +3,12 @@
 use mathlib.Core.Path.{◌≡◌, refl, sym, ◌∙◌, fun_ext}
 use mathlib.Core.Logic.{◌≢◌}
 use mathlib.Core.Bool.{Bool, true, false, not, cond}
-use mathlib.Core.List.{List}
-use Prim.Native.Nat.{ℕ, zero, suc, ◌+◌, ◌-◌, ◌*◌, ◌≤◌, ◌<◌}
+use mathlib.Core.List.{List, []}
+use Prim.Native.Nat.{ℕ, zero, suc, ◌+◌, ◌-◌, ◌≤◌, ◌<◌}
 use native.Mathlib.Omega.{arith}
-use native.Mathlib.Decide.{ℕ_discrete, dec_lt}
+use native.Mathlib.Decide.{dec_lt}
 use lib.Dec.{T, leb, eqb, leb→le, ltb→lt, eqb→eq}
-use lib.ListN.{length, get_or, set, replicate, length-set}
+use lib.ListN.{length, get_or, set, replicate, length-set, get_or-replicate}
 use lib.Seq.{get_or-set_same, get_or-set_other, set-get_or}
 use lib.IntN.{ℤ, pos, nat_abs, ◌+ℤ◌}
 use Rattle.types.specs.declared.Config.{Config}
@@ -21,16 +21,16 @@ use Rattle.types.specs.declared.Facade.{Facade}
 use Rattle.types.specs.declared.Reaction.{Reaction}
 use Rattle.rules.specs.Conditions.{◌and◌, all}
 use Rattle.rules.specs.Clock.{clock_reading}
-use Rattle.rules.specs.Parts.{no_server, believes, leads_at, server_at, message_at, offset_at, clock, notice_at, parties, binding_at, with_life, with_leading, with_messages}
+use Rattle.rules.specs.Parts.{no_server, believes, leads_at, server_at, message_at, offset_at, clock, notices_of, notice_in, notice_at, parties, binding_at, with_life, with_leading, with_messages}
 use Rattle.rules.specs.Ranges.{offset_in_range, is_server}
 use Rattle.rules.specs.Messages.{removed, without}
 use Rattle.rules.specs.Order.{rank, is_first}
 use Rattle.rules.specs.Server.{at_address, lead_delay, leads_after, leading_with, noticed, after_return, cleaned, offerable, offered, on_discover, granted, dropped, grantable, on_request, on_renew, on_write, matches_write, acknowledged, on_write_ack, handled_at, is_request, address_of, server_handles, server_receives}
-use Rattle.rules.specs.Steps.{Action, pass, fail, return, notice, discover, request, renew, deliver, lose, cleanup, unknown, fresh, exists, of_pass, clock_allows, in_touch, of_notice, is_credible, row_now, lapse, delivered, deed_of, takes_out, taken_out, enacted, server_after, notices_after, client_after, next_after, effect, holds_ended, lapsed_at}
+use Rattle.rules.specs.Steps.{Action, pass, fail, return, notice, discover, request, renew, deliver, lose, cleanup, unknown, fresh, exists, of_pass, clock_allows, in_touch, of_notice, is_credible, lapse, delivered, deed_of, takes_out, taken_out, enacted, server_after, notices_after, client_after, next_after, effect, holds_ended, lapsed_at}
 use Rattle.types.specs.declared.Deed.{Deed}
-use Rattle.rules.proofs.Laws.{and_l, and_r, or_elim, clash, not_eqb, cond_case, all_at, set_case, set_any, rep_ind, rep_true, rep_false, length_filled, filled_at}
+use Rattle.rules.proofs.Laws.{and_l, and_r, or_elim, clash, cond_case, all_at, set_case, set_any, rep_true, rep_false, length_filled, filled_at}
 use Rattle.rules.proofs.Clocks.{plus_low, plus_high, plus_later, plus_mono}
-use Rattle.rules.proofs.Kept.{handled, deliver_is, of_fresh, Configured, configured, Ranged, Kept}
+use Rattle.rules.proofs.Kept.{handled, deliver_is, of_fresh, none_heard, Configured, configured, Ranged, Kept}
 
 -- Orders.
 
@@ -92,13 +92,14 @@ L4 Δ s = T s.alive → s.changed ≤ s.returned + Δ
 abbrev L5 : (ℕ → ℕ → ℕ) → ℕ → ℕ → ℕ → Core → Type 0
 L5 order k j a s = T s.alive → T (get_or s.leads a false) → order a j < order a k → T (not (believes s.believed j))
 
-pub record LedBy (order : ℕ → ℕ → ℕ) (c : Config) (t : ℕ) (os : List ℤ) (ts : List ℕ) (n : ℕ) (core : ℕ → Core) : Type 0 where
+pub record LedBy (order : ℕ → ℕ → ℕ) (c : Config) (t : ℕ) (os : List ℤ) (ts : List (List ℕ)) (n : ℕ) (core : ℕ → Core) : Type 0 where
   pub servers : n ≡ 4
-  pub notices : length ts ≡ 16
+  pub notices : length ts ≡ 4
+  pub rows : (k : ℕ) → k < c.servers → length (notices_of ts k) ≡ 4
   pub believed : (k : ℕ) → k < c.servers → length (core k).believed ≡ 4
   pub leads : (k : ℕ) → k < c.servers → length (core k).leads ≡ 32
-  pub l1 : (k j : ℕ) → k < c.servers → j < c.servers → j ≢ k → L1 c.detection (get_or ts (k * 4 + j) 0) j (core k) (core j)
-  pub l2 : (k j : ℕ) → k < c.servers → j < c.servers → j ≢ k → L2 c.detection t (get_or ts (k * 4 + j) 0) (core k)
+  pub l1 : (k j : ℕ) → k < c.servers → j < c.servers → j ≢ k → L1 c.detection (notice_in ts k j) j (core k) (core j)
+  pub l2 : (k j : ℕ) → k < c.servers → j < c.servers → j ≢ k → L2 c.detection t (notice_in ts k j) (core k)
   pub l3 : (j a : ℕ) → j < c.servers → a < c.addresses → L3 (lead_delay c) (clock_reading t (get_or os j (pos 0))) a (core j)
   pub l4 : (j : ℕ) → j < c.servers → L4 c.skew (core j)
   pub l5 : (k j a : ℕ) → k < c.servers → j < c.servers → a < c.addresses → L5 order k j a (core k)
@@ -205,36 +206,39 @@ module _ (order : ℕ → ℕ → ℕ) (f : Facade) (g : Ranged f) (v : Led orde
   same_core i s h e =
       rw (length-set f.servers i s, fun_ext (λ k. on_one f i s (place i h) (λ x. x ≡ core_of (server_at f k)) k (λ q. rw q e) (λ _. refl))) v
 
-  -- what a server s in place of server i, with notice times ts, has to meet: only its own row of notices changes
-  record Replaces (i : ℕ) (s : Server) (ts : List ℕ) : Type 0 where
+  -- what a server s in place of server i, with the notice times row, has to meet
+  record Replaces (i : ℕ) (s : Server) (row : List ℕ) : Type 0 where
     exists_i : i < f.config.servers
     believed : length s.believed ≡ 4
     leads : length s.leads ≡ 32
-    notices : length ts ≡ 16
-    others : (k j : ℕ) → k ≢ i → j < f.config.servers → get_or ts (k * 4 + j) 0 ≡ notice_at f k j
-    l1_own : (j : ℕ) → j < f.config.servers → j ≢ i → L1 f.config.detection (get_or ts (i * 4 + j) 0) j (core_of s) (core_of (server_at f j))
+    notices : length row ≡ 4
+    l1_own : (j : ℕ) → j < f.config.servers → j ≢ i → L1 f.config.detection (get_or row j 0) j (core_of s) (core_of (server_at f j))
     l1_about : (k : ℕ) → k < f.config.servers → k ≢ i → L1 f.config.detection (notice_at f k i) i (core_of (server_at f k)) (core_of s)
-    l2_own : (j : ℕ) → j < f.config.servers → j ≢ i → L2 f.config.detection f.time (get_or ts (i * 4 + j) 0) (core_of s)
+    l2_own : (j : ℕ) → j < f.config.servers → j ≢ i → L2 f.config.detection f.time (get_or row j 0) (core_of s)
     l3_own : (a : ℕ) → a < f.config.addresses → L3 (lead_delay f.config) (clock f i) a (core_of s)
     l4_own : L4 f.config.skew (core_of s)
     l5_own : (j a : ℕ) → j < f.config.servers → a < f.config.addresses → L5 order i j a (core_of s)
 
-  replaced : (i : ℕ) (s : Server) (ts : List ℕ) → Replaces i s ts
-      → LedBy order f.config f.time f.offsets ts (length (set f.servers i s)) (λ k. core_of (get_or (set f.servers i s) k no_server))
-  replaced i s ts w =
+  replaced : (i : ℕ) (s : Server) (row : List ℕ) → Replaces i s row
+      → LedBy order f.config f.time f.offsets (set f.notices i row) (length (set f.servers i s)) (λ k. core_of (get_or (set f.servers i s) k no_server))
+  replaced i s row w =
       let p : i < length f.servers = place i w.exists_i in
+      let q : i < length f.notices = omega (arith, v.notices, w.exists_i, ok.servers_high) in
+      let own : notices_of (set f.notices i row) i ≡ row = get_or-set_same f.notices i row [] q in
+      let others : (k : ℕ) → k ≢ i → notices_of (set f.notices i row) k ≡ notices_of f.notices k = λ k nk. get_or-set_other f.notices i k row [] nk in
       record {
         servers = length-set f.servers i s ∙ v.servers;
-        notices = w.notices;
+        notices = length-set f.notices i row ∙ v.notices;
+        rows = λ k hk. set_case (λ x. length x ≡ 4) f.notices i row [] k q (λ _. w.notices) (λ _. v.rows k hk);
         believed = λ k hk. on_one f i s p (λ x. length x.believed ≡ 4) k (λ _. w.believed) (λ _. v.believed k hk);
         leads = λ k hk. on_one f i s p (λ x. length x.leads ≡ 32) k (λ _. w.leads) (λ _. v.leads k hk);
-        l1 = λ k j hk hj ne. on_two f i s p (L1 f.config.detection (get_or ts (k * 4 + j) 0) j) k j ne
-            (λ e. rw e (w.l1_own j hj (rw e at ne)))
-            (λ e. let nk : k ≢ i = λ e'. ne (cc) in rw (w.others k j nk hj, e) (w.l1_about k hk nk))
-            (λ nk _. rw (w.others k j nk hj) (v.l1 k j hk hj ne));
-        l2 = λ k j hk hj ne. on_one f i s p (L2 f.config.detection f.time (get_or ts (k * 4 + j) 0)) k
-            (λ e. rw e (w.l2_own j hj (rw e at ne)))
-            (λ nk. rw (w.others k j nk hj) (v.l2 k j hk hj ne));
+        l1 = λ k j hk hj ne. on_two f i s p (L1 f.config.detection (notice_in (set f.notices i row) k j) j) k j ne
+            (λ e. rw (e, own) (w.l1_own j hj (rw e at ne)))
+            (λ e. let nk : k ≢ i = λ e'. ne (cc) in rw (others k nk, e) (w.l1_about k hk nk))
+            (λ nk _. rw (others k nk) (v.l1 k j hk hj ne));
+        l2 = λ k j hk hj ne. on_one f i s p (L2 f.config.detection f.time (notice_in (set f.notices i row) k j)) k
+            (λ e. rw (e, own) (w.l2_own j hj (rw e at ne)))
+            (λ nk. rw (others k nk) (v.l2 k j hk hj ne));
         l3 = λ j a hj ha. on_one f i s p (L3 (lead_delay f.config) (clock f j) a) j (λ e. rw e (w.l3_own a ha)) (λ _. v.l3 j a hj ha);
         l4 = λ j hj. on_one f i s p (L4 f.config.skew) j (λ _. w.l4_own) (λ _. v.l4 j hj);
         l5 = λ k j a hk hj ha. on_one f i s p (L5 order k j a) k (λ e. rw e (w.l5_own j a hj ha)) (λ _. v.l5 k j a hk hj ha);
@@ -245,63 +249,32 @@ module _ (order : ℕ → ℕ → ℕ) (f : Facade) (g : Ranged f) (v : Led orde
   unfolding effect deed_of takes_out taken_out enacted server_after notices_after exists
   led_fail i w =
       let h : i < f.config.servers = ltb→lt i _ w.names in
-      replaced i (with_life (server_at f i) false f.time) f.notices (record {
+      rw (set-get_or f.notices i []) at (replaced i (with_life (server_at f i) false f.time) (notices_of f.notices i) (record {
         exists_i = h;
         believed = v.believed i h;
         leads = v.leads i h;
-        notices = v.notices;
-        others = λ k j _ _. refl;
+        notices = v.rows i h;
         l1_own = λ j _ _ x. absurd x;
         l1_about = λ k _ _ _ x. absurd x;
         l2_own = λ j _ _ x. absurd x;
         l3_own = λ a _ x. absurd x;
         l4_own = λ x. absurd x;
         l5_own = λ j a _ _ x. absurd x;
-      })
+      }))
 
   -- return: everyone is believed live, nothing is led, and the server's notice times are now
-  row_length : (ts : List ℕ) (k t : ℕ) → length (row_now ts k t) ≡ length ts
-  unfolding row_now
-  row_length ts k t = simp length-set
-
-  row_own : (ts : List ℕ) (k j t : ℕ) → length ts ≡ 16 → k < 4 → j < 4 → get_or (row_now ts k t) (k * 4 + j) 0 ≡ t
-  unfolding row_now
-  row_own ts k j t h hk hj =
-      let ts₀ : List ℕ = set ts (k * 4) t in
-      let ts₁ : List ℕ = set ts₀ (k * 4 + 1) t in
-      let ts₂ : List ℕ = set ts₁ (k * 4 + 2) t in
-      let now : (l : List ℕ) (i : ℕ) → length l ≡ 16 → i < 16 → (k * 4 + j ≢ i → get_or l (k * 4 + j) 0 ≡ t) → get_or (set l i t) (k * 4 + j) 0 ≡ t =
-      λ l i e b old. set_case (λ x. x ≡ t) l i t 0 (k * 4 + j) (omega arith) (λ _. refl) old in
-      now ts₂ (k * 4 + 3) (simp length-set h) (omega arith)
-      (λ n₃. now ts₁ (k * 4 + 2) (simp length-set h) (omega arith)
-      (λ n₂. now ts₀ (k * 4 + 1) (simp length-set h) (omega arith)
-      (λ n₁. now ts (k * 4) h (omega arith) (λ n₀. absurd (omega arith)))))
-
-  row_other : (ts : List ℕ) (i k j t : ℕ) → j < 4 → k ≢ i → get_or (row_now ts i t) (k * 4 + j) 0 ≡ get_or ts (k * 4 + j) 0
-  unfolding row_now
-  row_other ts i k j t hj ne =
-      rw (
-        get_or-set_other _ (i * 4 + 3) (k * 4 + j) t 0 (omega arith),
-        get_or-set_other _ (i * 4 + 2) (k * 4 + j) t 0 (omega arith),
-        get_or-set_other _ (i * 4 + 1) (k * 4 + j) t 0 (omega arith),
-        get_or-set_other _ (i * 4) (k * 4 + j) t 0 (omega arith),
-      )
-
   pub led_return : (i : ℕ) → Kept f (return i) → Led order (effect f (return i)).facade
   unfolding effect deed_of takes_out taken_out enacted server_after notices_after exists after_return
   led_return i w =
       let h : i < f.config.servers = ltb→lt i _ w.names in
-      let own : (j : ℕ) → j < f.config.servers → get_or (row_now f.notices i f.time) (i * 4 + j) 0 ≡ f.time =
-      λ j hj. row_own f.notices i j f.time v.notices (omega (arith, ok.servers_high)) (omega (arith, ok.servers_high)) in
-      replaced i (with_life (after_return (clock f i) (server_at f i)).after true f.time) (row_now f.notices i f.time) (record {
+      replaced i (with_life (after_return (clock f i) (server_at f i)).after true f.time) (replicate 4 f.time) (record {
         exists_i = h;
         believed = refl;
         leads = refl;
-        notices = row_length f.notices i f.time ∙ v.notices;
-        others = λ k j ne hj. row_other f.notices i k j f.time (omega (arith, ok.servers_high)) ne;
+        notices = refl;
         l1_own = λ j hj _ _ _ nb. clash (believes (replicate 4 true) j) (rep_true 4 j (omega (arith, ok.servers_high))) nb;
         l1_about = λ k hk ne _ _ _. omega (arith, g.notice k i hk h (λ e. ne (sym e)), ok.detection_low);
-        l2_own = λ j hj _ _. omega (arith, own j hj);
+        l2_own = λ j hj _ _. omega (arith, get_or-replicate 4 j f.time 0 (omega (arith, ok.servers_high)));
         l3_own = λ a _ _ t. absurd (rep_false 32 a t);
         l4_own = λ _. clock_low f g i (omega arith);
         l5_own = λ j a _ _ _ t. absurd (rep_false 32 a t);
@@ -317,15 +290,11 @@ module _ (order : ℕ → ℕ → ℕ) (f : Facade) (g : Ranged f) (v : Led orde
     unfolding exists
     hj = ltb→lt j f.config.servers (and_l _ _ (and_r _ _ w.names))
 
-    jk : j ≢ k
-    unfolding exists
-    jk = not_eqb j k (and_r _ _ (and_r _ _ w.names))
-
     set_now : List Bool
     set_now = set (server_at f k).believed j (eqb says 1)
 
     times_now : List ℕ
-    times_now = set f.notices (k * 4 + j) f.time
+    times_now = set (notices_of f.notices k) j f.time
 
     said_dead : (b x : Bool) → T (not b) → T (cond b x (not x)) → T x → ⊥
     said_dead true x n y t = n
@@ -339,26 +308,22 @@ module _ (order : ℕ → ℕ → ℕ) (f : Facade) (g : Ranged f) (v : Led orde
         (λ x. absurd (said_dead (eqb says 1) (server_at f j).alive n x al))
         (λ x. omega (arith, ltb→lt))
 
-    time_about : get_or times_now (k * 4 + j) 0 ≡ f.time
-    unfolding times_now
-    time_about = get_or-set_same f.notices (k * 4 + j) f.time 0 (omega (arith, v.notices, hk, hj, ok.servers_high))
-
-    time_else : (k' j' : ℕ) → k' * 4 + j' ≢ k * 4 + j → get_or times_now (k' * 4 + j') 0 ≡ notice_at f k' j'
-    unfolding times_now
-    time_else k' j' ne = get_or-set_other f.notices (k * 4 + j) (k' * 4 + j') f.time 0 ne
+    in_row : j < length (notices_of f.notices k)
+    in_row = omega (arith, v.rows k hk, hj, ok.servers_high)
 
     own_l1 : (j' : ℕ) → j' < f.config.servers → j' ≢ k → T (server_at f k).alive → T (server_at f j').alive → T (not (believes set_now j'))
-        → get_or times_now (k * 4 + j') 0 < (server_at f j').changed + f.config.detection
-    unfolding set_now
+        → get_or times_now j' 0 < (server_at f j').changed + f.config.detection
+    unfolding set_now times_now
     own_l1 j' h ne ak aj =
-        set_case (λ x. T (not x) → get_or times_now (k * 4 + j') 0 < (server_at f j').changed + f.config.detection) (server_at f k).believed j (eqb says 1) false j'
+        set_case (λ x. T (not x) → get_or times_now j' 0 < (server_at f j').changed + f.config.detection) (server_at f k).believed j (eqb says 1) false j'
         (omega (arith, v.believed k hk, hj, ok.servers_high))
-        (λ e n. rw e (omega (arith, time_about, dead_soon (rw e at aj) n)))
-        (λ ne' n. omega (arith, time_else k j' (λ e. ne' (omega arith)), v.l1 k j' hk h ne ak aj n))
+        (λ e n. rw (e, get_or-set_same (notices_of f.notices k) j f.time 0 in_row) (dead_soon (rw e at aj) n))
+        (λ ne' n. rw (get_or-set_other (notices_of f.notices k) j j' f.time 0 ne') (v.l1 k j' hk h ne ak aj n))
 
-    own_l2 : (j' : ℕ) → j' < f.config.servers → j' ≢ k → T (server_at f k).alive → Dec (j' ≡ j) → f.time ≤ get_or times_now (k * 4 + j') 0 + f.config.detection
-    own_l2 j' h ne ak (yes e) = rw e (omega (arith, time_about))
-    own_l2 j' h ne ak (no ne') = omega (arith, time_else k j' (λ e. ne' (omega arith)), v.l2 k j' hk h ne ak)
+    own_l2 : (j' : ℕ) → j' < f.config.servers → j' ≢ k → T (server_at f k).alive → f.time ≤ get_or times_now j' 0 + f.config.detection
+    unfolding times_now
+    own_l2 j' h ne ak =
+        set_case (λ x. f.time ≤ x + f.config.detection) (notices_of f.notices k) j f.time 0 j' in_row (λ _. omega arith) (λ _. v.l2 k j' hk h ne ak)
 
     now : Server
     now = leading_with f.config k (clock f k) (server_at f k) set_now
@@ -383,11 +348,10 @@ module _ (order : ℕ → ℕ → ℕ) (f : Facade) (g : Ranged f) (v : Led orde
       exists_i = hk;
       believed = length-set (server_at f k).believed j _ ∙ v.believed k hk;
       leads = length_filled _ _ (server_at f k).leads ∙ v.leads k hk;
-      notices = length-set f.notices _ _ ∙ v.notices;
-      others = λ k' j' ne h. time_else k' j' (omega (arith, hj, h, ok.servers_high));
+      notices = length-set (notices_of f.notices k) j _ ∙ v.rows k hk;
       l1_own = own_l1;
       l1_about = λ k' h ne. v.l1 k' k h hk (λ e. ne (sym e));
-      l2_own = λ j' h ne ak. own_l2 j' h ne ak (ℕ_discrete j' j);
+      l2_own = own_l2;
       l3_own = waited;
       l4_own = v.l4 k hk;
       l5_own = λ j' a h ha _ t. o.first a k set_now (first_now a ha t) j' h;
@@ -414,6 +378,7 @@ module _ (order : ℕ → ℕ → ℕ) (f : Facade) (g : Ranged f) (v : Led orde
     led_pass = record {
       servers = v.servers;
       notices = v.notices;
+      rows = v.rows;
       believed = v.believed;
       leads = v.leads;
       l1 = v.l1;
@@ -452,9 +417,10 @@ unfolding fresh
 led_fresh order c ok = record {
   servers = refl;
   notices = refl;
+  rows = λ k h. rw (get_or-replicate 4 k (replicate {A = ℕ} 4 0) [] (omega (arith, ok.servers_high))) refl;
   believed = λ k h. of_fresh c ok (λ s. length s.believed ≡ 4) k h refl;
   leads = λ k h. of_fresh c ok (λ s. length s.leads ≡ 32) k h refl;
-  l1 = λ k j _ _ _ _ _ _. omega (arith, rep_ind (λ x. x ≤ 0) 16 0 0 (k * 4 + j) (omega arith) (omega arith), ok.detection_low);
+  l1 = λ k j _ _ _ _ _ _. omega (arith, none_heard k j, ok.detection_low);
   l2 = λ k j _ _ _ _. omega arith;
   l3 = λ j a h _. of_fresh c ok (λ s. L3 (lead_delay c) (clock (fresh c) j) a (core_of s)) j h (λ _ t. absurd (rep_false 32 a t));
   l4 = λ j h. of_fresh c ok (λ s. L4 c.skew (core_of s)) j h (λ _. omega arith);

@@ -4,7 +4,7 @@ use mathlib.Core.Path.{◌≡◌, refl, ◌∙◌}
 use mathlib.Core.Logic.{◌≢◌}
 use mathlib.Core.Bool.{Bool, true, false, not, cond}
 use mathlib.Core.List.{List, [], ◌∷◌}
-use Prim.Native.Nat.{ℕ, ◌+◌, ◌-◌, ◌*◌, ◌≤◌, ◌<◌, max}
+use Prim.Native.Nat.{ℕ, ◌+◌, ◌-◌, ◌≤◌, ◌<◌, max}
 use native.Mathlib.Nat.{le_refl, not-suc-le-zero}
 use native.Mathlib.Omega.{arith}
 use lib.Dec.{T, leb, ltb, eqb, leb→le, le→leb, ltb→lt, lt→ltb, eqb→eq}
@@ -32,17 +32,17 @@ use Rattle.types.specs.declared.Outcome.TheVariants.{Done, Unmet, Dead}
 use Rattle.types.specs.declared.Reaction.{Reaction}
 use Rattle.types.specs.Numbers.{outcome_number}
 use Rattle.rules.specs.Conditions.{◌and◌, unless, all}
-use Rattle.rules.specs.Parts.{no_server, no_write, no_client, no_message, reserved_at, lent_at, potlease_at, write_at, leads_at, binding_at, with_life, with_leading, with_reserved, with_binding, message, client_party, parties, server_at, state_at, message_at, offset_at, clock, with_server, with_notices, with_clients, with_client, with_time, with_next}
+use Rattle.rules.specs.Parts.{no_server, no_write, no_client, no_message, reserved_at, lent_at, potlease_at, write_at, leads_at, binding_at, with_life, with_leading, with_reserved, with_binding, message, client_party, parties, server_at, state_at, message_at, offset_at, clock, notices_of, notice_in, notice_at, with_server, with_notices, with_clients, with_client, with_time, with_next}
 use Rattle.rules.specs.Ranges.{config_in_range, interaction_in_range, offset_in_range, reservation_in_range, write_in_range, address_in_range, server_in_range, state_in_range, is_server, is_client, body_in_range, message_in_range, in_range, end_in_range, reading_in_range, last_time, last_interaction, most_waiting, Sound}
 use Rattle.types.specs.declared.Deed.{Deed}
 use Rattle.rules.specs.Messages.{answer, nothing, post, send_all, without}
 use Rattle.rules.specs.Server.{at_address, closed, lead_record, leads_after, record_after, leading_with, noticed, after_return, reservations_by, freed_if_old, cleaned, offerable, offered, on_discover, address_for, address_of, handled_at, is_request, granted, freed_if_of, dropped, grantable, on_request, on_renew, on_write, matches_write, acknowledged, on_write_ack, server_handles, server_receives}
 use Rattle.rules.specs.Client.{is_holding, reply, broadcast, lapsed, discovers, requests, renews, asks_with, on_offer, expects, on_ack, client_handles}
-use Rattle.rules.specs.Steps.{fresh_server, fresh, Action, pass, fail, return, notice, discover, request, renew, deliver, lose, cleanup, unknown, action_of, fields_in_range, exists, of_pass, time_left, clock_allows, interaction_left, accepted, server_acts, client_acts, lapse, row_now, delivered, deed_of, takes_out, position, taken_out, enacted, server_after, notices_after, client_after, next_after, effect, broken, refusal, answer_to, step, run, malformed, holds_ended, barred, lapsed_at}
+use Rattle.rules.specs.Steps.{fresh_server, fresh, Action, pass, fail, return, notice, discover, request, renew, deliver, lose, cleanup, unknown, action_of, fields_in_range, exists, of_pass, time_left, clock_allows, interaction_left, accepted, server_acts, client_acts, lapse, delivered, deed_of, takes_out, position, taken_out, enacted, server_after, notices_after, client_after, next_after, effect, broken, refusal, answer_to, step, run, malformed, holds_ended, barred, lapsed_at}
 use Rattle.rules.proofs.Laws.{Or, inl, inr, and_l, and_r, and_both, cond_case, all_at, all_by, set_any, rep_ind, filled_any}
 use Rattle.rules.proofs.Clocks.{plus_high, not_negative_later, not_negative_sum}
 use Rattle.rules.proofs.Cable.{Waits, Posted, ToServer, length_sent, waits_sent, length_removed, waits_removed, posted_nothing, posted_one, posted_each, posted_others}
-use Rattle.rules.proofs.Kept.{address_low, handled, deliver_is, Configured, configured, Ranged, ranged, in_range_lem, Kept, kept}
+use Rattle.rules.proofs.Kept.{address_low, handled, deliver_is, Configured, configured, Ranged, ranged, none_heard, in_range_lem, Kept, kept}
 
 -- tests as bounds, for omega
 ruleset bounds = (arith, leb→le, ltb→lt, le→leb, lt→ltb)
@@ -366,13 +366,13 @@ still : (g : Facade) → Ranged g → length g.messages ≡ 128 → Good (accept
 still g v l = record { accepted = refl; range = v; full = l }
 
 -- the facade with other servers, notice times, clients and messages
-abbrev replaced : Facade → List Server → List ℕ → List Client → List Message → ℕ → Facade
+abbrev replaced : Facade → List Server → List (List ℕ) → List Client → List Message → ℕ → Facade
 replaced f ss ts xs ms w =
     record { config = f.config; time = f.time; next = f.next; offsets = f.offsets; servers = ss; notices = ts; clients = xs; messages = ms; waiting = w }
 
 -- notice times are not above true time
-abbrev Heard : Facade → List ℕ → Type 0
-Heard f ts = (k j : ℕ) → k < f.config.servers → j < f.config.servers → j ≢ k → get_or ts (k * 4 + j) 0 ≤ f.time
+abbrev Heard : Facade → List (List ℕ) → Type 0
+Heard f ts = (k j : ℕ) → k < f.config.servers → j < f.config.servers → j ≢ k → notice_in ts k j ≤ f.time
 
 module _ (f : Facade) (v : Ranged f) where
   sized : Configured f.config
@@ -402,7 +402,7 @@ module _ (f : Facade) (v : Ranged f) where
     message = λ m x. message_later f.next n hn f.config m (v.message m (record { at = x.at; below = x.below; is = x.is }));
   }
 
-  parts : (ss : List Server) (ts : List ℕ) (xs : List Client) (ms : List Message) (w : ℕ)
+  parts : (ss : List Server) (ts : List (List ℕ)) (xs : List Client) (ms : List Message) (w : ℕ)
       → ((k : ℕ) → k < f.config.servers → T (server_in_range f.config f.time f.next (get_or ss k no_server)))
       → Heard f ts
       → ((i : ℕ) → i < f.config.clients → T (state_in_range f.config f.next (get_or xs i no_client).state))
@@ -410,7 +410,7 @@ module _ (f : Facade) (v : Ranged f) where
   parts ss ts xs ms w ok heard states room sent =
       record { config = v.config; time = v.time; next_low = v.next_low; next_high = v.next_high; waiting = room; offset = v.offset; server = ok; notice = heard; client = states; message = sent }
 
-  with_server_lem : (k : ℕ) (s : Server) (ts : List ℕ) → Stored f.config f.time f.next s → Heard f ts → Ranged (with_server (with_notices f ts) k s)
+  with_server_lem : (k : ℕ) (s : Server) (ts : List (List ℕ)) → Stored f.config f.time f.next s → Heard f ts → Ranged (with_server (with_notices f ts) k s)
   with_server_lem k s ts x heard = parts _ ts f.clients f.messages f.waiting
       (λ j h. set_any (λ y. T (server_in_range f.config f.time f.next y)) f.servers k s no_server j (λ _. server_in_range_lem f.config f.time f.next s x) (v.server j h))
       heard v.client v.waiting (λ m y. v.message m (record { at = y.at; below = y.below; is = y.is }))
@@ -432,7 +432,7 @@ module _ (f : Facade) (v : Ranged f) where
 
 -- the parties act
 module _ (f : Facade) (v : Ranged f) (l : length f.messages ≡ 128) where
-  server_acts_lem : (k : ℕ) (x : Reaction Server) (ts : List ℕ) → ServerFits f.config f.time f.next x → Heard f ts
+  server_acts_lem : (k : ℕ) (x : Reaction Server) (ts : List (List ℕ)) → ServerFits f.config f.time f.next x → Heard f ts
       → f.waiting + x.outbox.count ≤ most_waiting → Good (server_acts (with_notices f ts) k x)
   server_acts_lem k x ts fits heard room =
       good_sent (with_server (with_notices f ts) k x.after) (with_server_lem f v k x.after ts fits.server heard) l x.outbox (outcome_number x.outcome) room fits.sends
@@ -457,19 +457,12 @@ module _ (f : Facade) (v : Ranged f) (l : length f.messages ≡ 128) where
 
 -- The ten steps.
 
--- times not above t stay so
-now : (ts : List ℕ) (p t i : ℕ) → get_or ts i 0 ≤ t → get_or (set ts p t) i 0 ≤ t
-now ts p t i = set_any (λ x. x ≤ t) ts p t 0 i (λ _. le_refl t)
-
-row_now_lem : (ts : List ℕ) (k t i : ℕ) → get_or ts i 0 ≤ t → get_or (row_now ts k t) i 0 ≤ t
-unfolding row_now
-row_now_lem ts k t i h =
-    let ts₁ : List ℕ = set ts (k * 4) t in
-    let ts₂ : List ℕ = set ts₁ (k * 4 + 1) t in
-    let ts₃ : List ℕ = set ts₂ (k * 4 + 2) t in
-    now ts₃ (k * 4 + 3) t i (now ts₂ (k * 4 + 2) t i (now ts₁ (k * 4 + 1) t i (now ts (k * 4) t i h)))
-
 module _ (f : Facade) (l : length f.messages ≡ 128) (v : Ranged f) where
+  -- a row of notice times in place of server k's
+  row_heard : (k : ℕ) (row : List ℕ) → ((j : ℕ) → notice_at f k j ≤ f.time → get_or row j 0 ≤ f.time) → Heard f (set f.notices k row)
+  row_heard k row h i j hi hj ne =
+      set_any (λ x. get_or x j 0 ≤ f.time) f.notices k row [] i (λ e. h j (rw e at (v.notice i j hi hj ne))) (v.notice i j hi hj ne)
+
   good_pass : (d p : ℕ) (e : ℤ) → Kept f (pass d p e) → Good (effect f (pass d p e))
   unfolding effect deed_of takes_out taken_out enacted lapse lapsed_at holds_ended of_pass time_left clock_allows offset_in_range
   good_pass d p e x =
@@ -508,12 +501,12 @@ module _ (f : Facade) (l : length f.messages ≡ 128) (v : Ranged f) where
   good_effect (return k) x =
       server_acts_lem f v l k _ _ (silent f.config f.time f.next _
       (cleared f.config f.time f.next 32 f.time (clock f k) true _ _ _ (le→leb _ _ (le_refl f.time)) (reads f v k x.names) (stored_at f v k x.names).records) Done)
-      (λ k' j h h' ne. row_now_lem f.notices k f.time (k' * 4 + j) (v.notice k' j h h' ne)) x.room
+      (row_heard k _ (λ j _. rep_ind (λ x. x ≤ f.time) 4 f.time 0 j (le_refl f.time) (omega arith))) x.room
   good_effect (notice k j says) x =
       let h = and_l _ _ x.names in
-      server_acts_lem f v l k _ (set f.notices (k * 4 + j) f.time)
+      server_acts_lem f v l k _ _
       (noticed_fits f.config f.time f.next (sized f v) k (clock f k) h (reads f v k h) (server_at f k) (stored_at f v k h) j says)
-      (λ k' j' b b' ne. now f.notices (k * 4 + j) f.time (k' * 4 + j') (v.notice k' j' b b' ne)) x.room
+      (row_heard k _ (λ j' old. set_any (λ x. x ≤ f.time) (notices_of f.notices k) j f.time 0 j' (λ _. le_refl f.time) old)) x.room
   good_effect (discover i) x =
       let b = begun x.fresh_interaction in
       client_acts_lem (with_next f (f.next + 1)) b.0 l i _ (discovers_fit f.config (f.next + 1) i (sized f v) x.names (state_at f i) f.next (b.0.client i (ltb→lt _ _ x.names)) b.1) x.room
@@ -561,7 +554,7 @@ fresh_in_range c h = in_range_lem (fresh c) (record {
   offset = λ p _. rep_ind (λ o. T (offset_in_range c 0 o)) 36 (pos 0) (pos 0) p exact exact;
   server = λ k _. rep_ind (λ s. T (server_in_range c 0 1 s)) 4 fresh_server no_server k
       (server_in_range_lem c 0 1 _ (cleared c 0 1 32 0 0 true _ _ _ tt tt (none 32))) (server_in_range_lem c 0 1 _ (cleared c 0 1 0 0 0 false _ _ _ tt tt (none 0)));
-  notice = λ k j _ _ _. rep_ind (λ x. x ≤ 0) 16 0 0 (k * 4 + j) (omega arith) (omega arith);
+  notice = λ k j _ _ _. omega (arith, none_heard k j);
   client = λ i _. rep_ind (λ x. T (state_in_range c 1 x.state)) 32 no_client no_client i tt tt;
   message = λ m x. absurd (not-suc-le-zero x.below);
 })

@@ -9,7 +9,6 @@ use Rattle.rules.specs.Parts.{offset_at, clock, parties}
 use Rattle.rules.specs.Ranges.{in_range, offset_in_range}
 use Rattle.rules.proofs.Laws.{and_l}
 use Rattle.rules.proofs.Kept.{Configured, configured, ranged}
-use Rattle.rules.proofs.Leadership.{clock_high}
 
 module _ (f : Facade) (t : T (in_range f)) where
   pub sizes : Configured f.config
@@ -27,9 +26,6 @@ module _ (f : Facade) (t : T (in_range f)) where
   pub offset_high : (p : ℕ) → p < parties f.config → nat_abs (offset_at f p) ≤ 1000
   unfolding offset_in_range
   offset_high p h = omega (arith, sizes, leb→le (nat_abs (offset_at f p)) f.config.skew (and_l _ _ ((ranged f t).offset p h)))
-
-  pub reading_high : (p : ℕ) → p < parties f.config → clock f p ≤ 1000001000
-  reading_high p h = omega (arith, sizes, time_high, clock_high f (ranged f t) p h)
 
 -- The world of a facade is in range as far as clocks and tests look at it: its servers, clients and messages may be any.
 pub record WorldInRange (f : Facade) : Type 0 where

@@ -1,7 +1,7 @@
 -- The edges of the refusals from 2 on (3 is of bytes, and comes from no step): each bound, one past it, and steps that break
 -- two rules at once.
 -- One table; the claims about it, computed by `step`, are in proofs/.
-use Rattle.std.specs.Prelude.{true, false, cond, List, [], ◌∷◌, ◌++◌, map, ℕ, ◌+◌, ◌-◌, ◌*◌, eqb, set, replicate, ℤ, pos, negsuc}
+use Rattle.std.specs.Prelude.{true, false, cond, List, [], ◌∷◌, ◌++◌, map, ℕ, ◌+◌, ◌-◌, eqb, set, replicate, ℤ, pos, negsuc}
 use Rattle.types.specs.declared.Server.{Server}
 use Rattle.types.specs.declared.Binding.{Binding}
 use Rattle.types.specs.declared.State.{State}
@@ -11,7 +11,7 @@ use Rattle.types.specs.declared.Message.{Message}
 use Rattle.types.specs.declared.Facade.{Facade}
 use Rattle.types.specs.declared.Step.{Step}
 use Rattle.rules.specs.Answers.{Answer}
-use Rattle.rules.specs.Parts.{taken, server_at, message, no_message, in_state, with_life, with_leading, binding_at, with_binding, with_reservation, with_lease, with_server, with_client, with_time, with_next, with_notices, with_messages}
+use Rattle.rules.specs.Parts.{taken, server_at, set_notice, message, no_message, in_state, with_life, with_leading, binding_at, with_binding, with_reservation, with_lease, with_server, with_client, with_time, with_next, with_notices, with_messages}
 use Rattle.rules.specs.Server.{opened, closed}
 use Rattle.rules.specs.Steps.{fresh}
 use Rattle.rules.specs.Examples.{answered, step_of, pass, fail, return, notice, discover, request, renew, deliver, lose, cleanup, config_of}
@@ -45,7 +45,7 @@ f ▷ g = g f
 
 -- true time t, at which all had their notices
 at : ℕ → Facade → Facade
-at t f = with_notices (with_time f t f.offsets) (replicate 16 t)
+at t f = with_notices (with_time f t f.offsets) (replicate 4 (replicate 4 t))
 
 next : ℕ → Facade → Facade
 next n f = with_next f n
@@ -56,7 +56,7 @@ ahead p o f = with_time f f.time (set f.offsets p o)
 
 -- server k last had a notice about server j at t
 heard : ℕ → ℕ → ℕ → Facade → Facade
-heard k j t f = with_notices f (set f.notices (k * 4 + j) t)
+heard k j t f = with_notices f (set_notice f.notices k j t)
 
 client : ℕ → State → Facade → Facade
 client i x f = with_client f i (in_state x)

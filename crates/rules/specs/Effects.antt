@@ -3,7 +3,7 @@
 -- is as it was given.
 -- Changes are written here part by part and share nothing with the rules. Unused places hold odd values, so that a rule that
 -- touches them is seen.
-use Rattle.std.specs.Prelude.{Bool, true, false, List, [], ◌∷◌, ◌++◌, map, ℕ, ◌+◌, ◌*◌, get_or, set, take, replicate, ℤ, pos, negsuc, Option, None}
+use Rattle.std.specs.Prelude.{Bool, true, false, List, [], ◌∷◌, ◌++◌, map, ℕ, ◌+◌, get_or, set, take, replicate, ℤ, pos, negsuc, Option, None}
 use Rattle.types.specs.declared.Config.{Config}
 use Rattle.types.specs.declared.Reservation.{Reservation}
 use Rattle.types.specs.declared.OpenWrite.{OpenWrite}
@@ -68,7 +68,7 @@ shut = record { pending = None; acked = flags false false false false }
 
 -- Changes to a facade.
 
-abbrev facade_with : Config → ℕ → ℕ → List ℤ → List Server → List ℕ → List Client → List Message → ℕ → Facade
+abbrev facade_with : Config → ℕ → ℕ → List ℤ → List Server → List (List ℕ) → List Client → List Message → ℕ → Facade
 facade_with c t n os ss ts xs ms w =
     record { config = c; time = t; next = n; offsets = os; servers = ss; notices = ts; clients = xs; messages = ms; waiting = w }
 
@@ -91,7 +91,7 @@ server k gs f =
 
 -- server k last had a notice about server j at t
 abbrev heard : ℕ → ℕ → ℕ → Facade → Facade
-heard k j t f = facade_with f.config f.time f.next f.offsets f.servers (set f.notices (k * 4 + j) t) f.clients f.messages f.waiting
+heard k j t f = facade_with f.config f.time f.next f.offsets f.servers (set f.notices k (set (get_or f.notices k []) j t)) f.clients f.messages f.waiting
 
 abbrev client : ℕ → State → Facade → Facade
 client i x f = facade_with f.config f.time f.next f.offsets f.servers f.notices (set f.clients i (record { state = x })) f.messages f.waiting
@@ -135,7 +135,7 @@ odd =
     facade_with (config_of 3 4 4 2 10 50 10) 100 9
     (pos 2 ∷ negsuc 1 ∷ pos 1 ∷ negsuc 0 ∷ pos 2 ∷ pos 0 ∷ pos 1 ∷ replicate 29 (pos 77))
     (numbered 0 true ∷ numbered 1 true ∷ numbered 2 false ∷ through (life true 999 ∷ back 3000000000 ∷ []) (numbered 9 false) ∷ [])
-    (999 ∷ 95 ∷ 96 ∷ 888 ∷ 97 ∷ 999 ∷ 98 ∷ 888 ∷ 99 ∷ 96 ∷ 999 ∷ 888 ∷ replicate 4 888)
+    ((999 ∷ 95 ∷ 96 ∷ 888 ∷ []) ∷ (97 ∷ 999 ∷ 98 ∷ 888 ∷ []) ∷ (99 ∷ 96 ∷ 999 ∷ 888 ∷ []) ∷ replicate 4 888 ∷ [])
     (map (λ x. record { state = x }) (Waiting 4 2 ∷ Offered 5 1 ∷ Holding 3 150 6 ∷ Asking 7 ∷ replicate 28 (Holding 31 7 4)))
     [] 0
     ▷ queue 3 (m₀ ∷ m₁ ∷ m₂ ∷ [])
@@ -379,7 +379,7 @@ abbrev pub begun : Config → Facade
 begun c =
     facade_with c 0 1 (replicate 36 (pos 0))
     (replicate 4 (server_of true 0 0 (replicate 4 true) (replicate 32 false) (replicate 32 None) (replicate 32 0) (replicate 32 0) (replicate 32 shut)))
-    (replicate 16 0) (replicate 32 (record { state = Idle })) (replicate 128 none) 0
+    (replicate 4 (replicate 4 0)) (replicate 32 (record { state = Idle })) (replicate 128 none) 0
 
 abbrev pub begins : ℕ → Config → Answer
 begins n c = record { refusal = n; outcome = 0; facade = begun c }

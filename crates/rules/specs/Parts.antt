@@ -1,6 +1,6 @@
 -- The parts of a facade: reading one, and replacing one.
 -- A reading outside an array gives what the code's reading would, `no..`: numbers 0, flags false, arrays empty, the first case.
-use Rattle.std.specs.Prelude.{Bool, false, List, [], ℕ, ◌+◌, ◌*◌, get_or, set, ℤ, pos, Option, Some, None}
+use Rattle.std.specs.Prelude.{Bool, false, List, [], ℕ, ◌+◌, get_or, set, ℤ, pos, Option, Some, None}
 use Rattle.types.specs.declared.Config.{Config}
 use Rattle.types.specs.declared.Reservation.{Reservation}
 use Rattle.types.specs.declared.Pending.{Pending}
@@ -161,12 +161,20 @@ clock_of t os p = clock_reading t (offset_of os p)
 abbrev pub clock : Facade → ℕ → ℕ
 clock f p = clock_of f.time f.offsets p
 
+-- the notice times of server k
+abbrev pub notices_of : List (List ℕ) → ℕ → List ℕ
+notices_of ts k = get_or ts k []
+
 -- the true time at which server k last had a notice about server j, by the notice times ts and of a facade
-abbrev pub notice_in : List ℕ → ℕ → ℕ → ℕ
-notice_in ts k j = get_or ts (k * 4 + j) 0
+abbrev pub notice_in : List (List ℕ) → ℕ → ℕ → ℕ
+notice_in ts k j = get_or (notices_of ts k) j 0
 
 abbrev pub notice_at : Facade → ℕ → ℕ → ℕ
 notice_at f k j = notice_in f.notices k j
+
+-- the notice times once server k has a notice about server j at t
+abbrev pub set_notice : List (List ℕ) → ℕ → ℕ → ℕ → List (List ℕ)
+set_notice ts k j t = set ts k (set (notices_of ts k) j t)
 
 abbrev pub with_server : Facade → ℕ → Server → Facade
 with_server f k s = record {
@@ -181,7 +189,7 @@ with_server f k s = record {
   waiting = f.waiting;
 }
 
-abbrev pub with_notices : Facade → List ℕ → Facade
+abbrev pub with_notices : Facade → List (List ℕ) → Facade
 with_notices f ts = record {
   config = f.config;
   time = f.time;

@@ -86,9 +86,9 @@ address_in_range n s a =
 unfoldable pub server_in_range : Config → ℕ → ℕ → Server → Bool
 server_in_range c t n s = leb s.changed t and reading_in_range s.returned and all (address_in_range n s) c.addresses
 
--- a server's own entry is not looked at
-unfoldable pub notice_in_range : Facade → ℕ → ℕ → Bool
-notice_in_range f k j = eqb j k or leb (notice_at f k j) f.time
+-- the time h of the last notice that server k had about server j, true time being t; a server's own entry is not looked at
+unfoldable pub notice_in_range : ℕ → ℕ → ℕ → ℕ → Bool
+notice_in_range t k j h = eqb j k or leb h t
 
 unfoldable pub state_in_range : Config → ℕ → State → Bool
 state_in_range c n Idle = true
@@ -126,7 +126,7 @@ in_range f =
     and leb f.waiting most_waiting
     and all (λ p. offset_in_range f.config f.time (offset_at f p)) (parties f.config)
     and all (λ k. server_in_range f.config f.time f.next (server_at f k)) f.config.servers
-    and all (λ k. all (notice_in_range f k) f.config.servers) f.config.servers
+    and all (λ k. all (λ j. notice_in_range f.time k j (notice_at f k j)) f.config.servers) f.config.servers
     and all (λ i. state_in_range f.config f.next (state_at f i)) f.config.clients
     and all (λ p. message_in_range f.config f.next (message_at f p)) f.waiting
 

@@ -1,5 +1,5 @@
 -- The ten steps: what a step says, its refusals, its effect and outcome, and a list of steps.
-use Rattle.std.specs.Prelude.{Bool, true, false, not, cond, List, [], ◌∷◌, ℕ, ◌+◌, ◌-◌, ◌*◌, leb, ltb, eqb, get_or, set, replicate, ℤ, pos, nat_abs, ◌+ℤ◌}
+use Rattle.std.specs.Prelude.{Bool, true, false, not, cond, List, [], ◌∷◌, ℕ, ◌+◌, ◌-◌, leb, ltb, eqb, get_or, set, replicate, ℤ, pos, nat_abs, ◌+ℤ◌}
 use Rattle.types.specs.declared.Config.{Config}
 use Rattle.types.specs.declared.Server.{Server}
 use Rattle.types.specs.declared.State.{State}
@@ -22,7 +22,7 @@ use Rattle.types.specs.declared.Reaction.{Reaction}
 use Rattle.types.specs.Numbers.{outcome_number}
 use Rattle.rules.specs.Conditions.{◌and◌, ◌or◌, is_within, unless, all, counted, filled}
 use Rattle.rules.specs.Clock.{not_negative, as_signed}
-use Rattle.rules.specs.Parts.{server_at, state_at, message_at, offset_of, offset_at, notice_in, clock_of, clock, client_party, parties, in_state, no_client, no_message, with_life, with_server, with_notices, with_client, with_clients, with_time, with_next}
+use Rattle.rules.specs.Parts.{server_at, state_at, message_at, offset_of, offset_at, notices_of, set_notice, clock_of, clock, client_party, parties, in_state, no_client, no_message, with_life, with_server, with_notices, with_client, with_clients, with_time, with_next}
 use Rattle.rules.specs.Views.{View, whole}
 use Rattle.rules.specs.Ranges.{config_in_range, in_range, end_in_range, is_server, last_time, last_interaction, most_waiting}
 use Rattle.rules.specs.Messages.{nothing, answer, send_all, without_if}
@@ -42,7 +42,7 @@ fresh c = record {
   next = 1;
   offsets = replicate 36 (pos 0);
   servers = replicate 4 fresh_server;
-  notices = replicate 16 0;
+  notices = replicate 4 (replicate 4 0);
   clients = replicate 32 no_client;
   messages = replicate 128 no_message;
   waiting = 0;
@@ -151,21 +151,21 @@ offset_allows c o d e = not_negative d e and leb (nat_abs (o +ℤ e)) c.skew
 unfoldable pub clock_allows : View → ℕ → ℕ → ℤ → Bool
 clock_allows v d p e = offset_allows v.world.config (offset_of v.world.offsets p) d e
 
--- Refusal 10. "A pass would leave a live server more than ν without a notice about another." By the notice times ts and the true time t
--- after it, server k had a notice about server j within ν, or is that server.
-abbrev pub has_heard : Config → List ℕ → ℕ → ℕ → ℕ → Bool
-has_heard c ts t k j = eqb j k or leb t (notice_in ts k j + c.detection)
+-- Refusal 10. "A pass would leave a live server more than ν without a notice about another." At true time t after it, server k, whose
+-- last notice about server j was at h, had that within ν, or is that server.
+abbrev pub has_heard : Config → ℕ → ℕ → ℕ → ℕ → Bool
+has_heard c t k j h = eqb j k or leb t (h + c.detection)
 
--- server k, if it is alive, had one about every other
-abbrev pub is_in_touch : Config → List ℕ → ℕ → ℕ → Bool → Bool
-is_in_touch c ts t k alive = not alive or all (has_heard c ts t k) c.servers
+-- server k, if it is alive, had one about every other, by its notice times
+abbrev pub is_in_touch : Config → ℕ → ℕ → List ℕ → Bool → Bool
+is_in_touch c t k row alive = not alive or all (λ j. has_heard c t k j (get_or row j 0)) c.servers
 
 -- every server
-abbrev pub are_in_touch : Config → List ℕ → ℕ → (ℕ → Bool) → Bool
-are_in_touch c ts t alive = all (λ k. is_in_touch c ts t k (alive k)) c.servers
+abbrev pub are_in_touch : Config → ℕ → List (List ℕ) → (ℕ → Bool) → Bool
+are_in_touch c t ts alive = all (λ k. is_in_touch c t k (notices_of ts k) (alive k)) c.servers
 
 unfoldable pub in_touch : View → ℕ → ℕ → ℤ → Bool
-in_touch v d p e = are_in_touch v.world.config v.world.notices (v.world.time + d) v.alive
+in_touch v d p e = are_in_touch v.world.config (v.world.time + d) v.world.notices v.alive
 
 -- Refusal 11. "A dead notice about a server alive for ν or more since c, or an alive notice about one dead for ν or more." True
 -- time is t, and the server is alive or not since `changed`.
@@ -237,15 +237,11 @@ server_after c t k r s (Notices j says) = noticed c k r s j says
 server_after c t k r s (Receives m) = server_receives c k r s m
 server_after c t k r s CleansUp = cleaned c r s
 
--- the row of receiver k, all set to t
-unfoldable pub row_now : List ℕ → ℕ → ℕ → List ℕ
-row_now ts k t = set (set (set (set ts (k * 4) t) (k * 4 + 1) t) (k * 4 + 2) t) (k * 4 + 3) t
-
 -- the notice times after it: "its notice times are now" of a return, "notice time is now" of a notice
-unfoldable pub notices_after : List ℕ → ℕ → ℕ → ServerEvent → List ℕ
+unfoldable pub notices_after : List (List ℕ) → ℕ → ℕ → ServerEvent → List (List ℕ)
 notices_after ts t k Fails = ts
-notices_after ts t k Returns = row_now ts k t
-notices_after ts t k (Notices j says) = set ts (k * 4 + j) t
+notices_after ts t k Returns = set ts k (replicate 4 t)
+notices_after ts t k (Notices j says) = set_notice ts k j t
 notices_after ts t k (Receives m) = ts
 notices_after ts t k CleansUp = ts
 

@@ -11,7 +11,7 @@ pub record World : Type 0 where
   pub time : ℕ
   pub next : ℕ
   pub offsets : List ℤ
-  pub notices : List ℕ
+  pub notices : List (List ℕ)
   pub waiting : ℕ
 
 abbrev pub world_of : Facade → World

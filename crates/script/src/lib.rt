@@ -8,6 +8,7 @@ ghost use Rattle.script.specs.Reading.{config_read, is_script, header_in, field_
 
 use arith::check;
 use ranges::config_in_range;
+use std::array;
 use steps::{action_of, malformed};
 use types::{Config, Refusal, Step};
 use wire::number_at;
@@ -18,7 +19,8 @@ pub const FIRST_RECORD: usize = 29;
 // The length of the longest script.
 pub const LONGEST: usize = 65536;
 
-// A record of a script, and the place behind it.
+// A record of a script, and the place behind it. No iterator walks the records: a run goes on at a place, piece by piece, and the
+// definitions read a script by place.
 #[derive(Clone, Copy)]
 pub struct Record {
     pub step: Step,
@@ -31,15 +33,7 @@ fn config_read(s: &[u8]) -> Config
     requires { first_record ≤ length s.now }
     ensures { result ≡ config_read s.now }
 {
-    Config {
-        servers: number_at(s, 1),
-        clients: number_at(s, 5),
-        addresses: number_at(s, 9),
-        skew: number_at(s, 13),
-        detection: number_at(s, 17),
-        mclt: number_at(s, 21),
-        retention: number_at(s, 25),
-    }
+    Config::from(array::from_fn(|i| number_at(s, 1 + 4 * i)))
 }
 
 // Refusal 1: whether s has the length and the version of a script.
@@ -73,7 +67,7 @@ pub fn header_in(s: &[u8]) -> Result<Config, Refusal>
     Ok(c)
 }
 
-// How many fields follow a kind.
+// How many fields follow a kind. 0, and no `None`, for a kind that there is not: its record may have any length.
 #[tactic(auto, using(crate::proofs::Laws::no_fields), unfolding(crate::specs::Layout::fields_of, crate::specs::Layout::field_count, rules::specs::Steps::action_of))]
 pub fn fields_of(kind: u32) -> u32
     ensures { (result ≡ fields_of kind) × (result ≤ 3) }

@@ -1,11 +1,11 @@
 // What is sealed in: a server's notices, return and cleanup, and the messages that it handles.
-// c is the configuration, k the server's number, r its clock reading, s its value. A server knows no facade and no true time.
+// s is the server's value. A server knows no facade and no true time.
 #![tactic(auto)]
 
-ghost use Rattle.std.specs.Prelude.{◌≡◌, ◌≤◌, ◌<◌, T};
+ghost use Rattle.std.specs.Prelude.{◌≡◌, ◌<◌, T};
 ghost use Rattle.types.specs.declared.Reservation.{Reservation};
 ghost use Rattle.rules.specs.Parts.{binding_at as binding_at', with_binding};
-ghost use Rattle.rules.specs.Ranges.{body_in_range, last_reading};
+ghost use Rattle.rules.specs.Ranges.{body_in_range};
 ghost use Rattle.rules.specs.Server.{noticed as noticed', cleared_server, after_return, freed_if_old, cleaned as cleaned', is_request, address_of, handled_at, server_receives};
 
 use leading::{may_lead, next_server, raised};
@@ -13,26 +13,29 @@ use lending::{
     drop_reservations, lowest_offerable, on_discover, on_renew, on_request, reservations_by,
 };
 use outbox::{done, nothing, unmet};
-use ranges::InRange;
-use types::{Binding, Body, Config, Message, Outcome, Reaction, Reservation, Server};
+use ranges::{InRange, ServerAt};
+use types::{Binding, Body, Config, Matter, Message, Outcome, Reaction, Reservation, Server};
 use writes::{closed, on_write, on_write_ack};
 
 // A notice: server `about` is dead (0) or alive (1). For each address it is decided anew whether the server leads it.
-pub fn noticed(c: InRange, k: u32, r: u32, s: Server, about: u32, says: u32) -> Reaction<Server>
-    requires { (k < c.servers) × (r ≤ last_reading) × (about < c.servers) }
-    ensures { result ≡ noticed' c k r s about says }
+pub fn noticed(who: ServerAt, s: Server, about: u32, says: u32) -> Reaction<Server>
+    requires { about < who.config.servers }
+    ensures { result ≡ noticed' who.config who.number who.reading s about says }
 {
     let mut t = s;
     t.believed[about as usize] = says == 1;
     let b = t.believed;
-    let config = c.config;
+    let c = who.known();
+    let k = who.number;
+    let r = who.reading;
     let mut first = 0;
-    for a in 0..config.addresses as usize {
+    // by places: over a `zip` of the flags and the records the check leaves five goals to prove, for three
+    for a in 0..who.config.addresses as usize {
         let before = t.leads[a];
         let now = may_lead(c, k, r, t.returned, before, b, first);
         t.leads[a] = now;
         t.potlease[a] = raised(c, r, before, now, t.potlease[a]);
-        first = next_server(config.servers, first);
+        first = next_server(who.config.servers, first);
     }
     done(t)
 }
@@ -67,20 +70,17 @@ pub fn after_return(r: u32, s: Server) -> Reaction<Server>
 fn freed_if_old(c: Config, r: u32, x: Option<Reservation>) -> Option<Reservation>
     ensures { result ≡ freed_if_old c r x }
 {
-    x.filter(|w| r as u64 <= w.reading as u64 + c.retention as u64)
+    x.filter(|w| u64::from(r) <= u64::from(w.reading) + u64::from(c.retention))
 }
 
-// The server with its old reservations dropped.
+// The server, whose clock reads r, with its old reservations dropped.
 #[tactic(auto, unfolding(rules::specs::Server::cleaned))]
 pub fn cleaned(c: InRange, r: u32, s: Server) -> Reaction<Server>
     ensures { result ≡ cleaned' c r s }
 {
+    let n = c.config.addresses;
     done(Server {
-        reserved: reservations_by(
-            |x| freed_if_old(c.config, r, x),
-            c.config.addresses,
-            s.reserved,
-        ),
+        reserved: reservations_by(|x| freed_if_old(c.config, r, x), n, s.reserved),
         ..s
     })
 }
@@ -96,12 +96,14 @@ fn is_request(body: Body) -> bool
 // No `Option`: an empty body meets no condition, and a discover is tested again at address 0, where the test failed: a `None`
 // would get the same answer.
 #[tactic(auto, unfolding(rules::specs::Server::address_for))]
-fn address_for(c: InRange, r: u32, s: &Server, body: Body) -> u32
-    ensures { result ≡ address_of c r s.now body }
+fn address_for(who: ServerAt, s: &Server, body: Body) -> u32
+    ensures { result ≡ address_of who.config who.reading s.now body }
 {
     match body {
         Body::Empty => 0,
-        Body::Discover => lowest_offerable(c, r, s.leads, s.reserved, s.potlease),
+        Body::Discover => {
+            lowest_offerable(who.known(), who.reading, s.leads, s.reserved, s.potlease)
+        }
         Body::Offer(a)
         | Body::Request(a, _)
         | Body::Renew(a, _, _)
@@ -111,27 +113,18 @@ fn address_for(c: InRange, r: u32, s: &Server, body: Body) -> u32
     }
 }
 
-// A message with this body from party p in interaction q, for address a. One that is for a client has no condition that is met.
+// A message with this body, where b is what is kept for its address. One that is for a client has no condition that is met.
 #[tactic(auto, using(crate::proofs::Laws::ack_sender), unfolding(rules::specs::Server::handled_at))]
-fn handled_at(
-    c: InRange,
-    k: u32,
-    r: u32,
-    b: Binding,
-    p: u32,
-    q: u32,
-    a: u32,
-    body: Body,
-) -> Reaction<Binding>
-    requires { (k < c.servers) × (r ≤ last_reading) × T (body_in_range c p k body) }
-    ensures { result ≡ handled_at c k r b p q a body }
+fn handled_at(who: ServerAt, b: Binding, matter: Matter, body: Body) -> Reaction<Binding>
+    requires { T (body_in_range who.config matter.party who.number body) }
+    ensures { result ≡ handled_at who.config who.number who.reading b matter.party matter.interaction matter.address body }
 {
     match body {
-        Body::Discover => on_discover(c, k, r, b, p, q, a),
-        Body::Request(_, t) => on_request(c, k, r, b, p, q, a, t),
-        Body::Renew(_, e, t) => on_renew(c, k, r, b, p, q, a, e, t),
-        Body::Write(_, v) => on_write(k, b, p, q, a, v),
-        Body::WriteAck(_, v) => on_write_ack(c.config, b, p, q, v),
+        Body::Discover => on_discover(who.known(), who.number, who.reading, b, matter),
+        Body::Request(_, t) => on_request(who, b, matter, t),
+        Body::Renew(_, e, t) => on_renew(who, b, matter, e, t),
+        Body::Write(_, v) => on_write(who.number, b, matter, v),
+        Body::WriteAck(_, v) => on_write_ack(who.config, b, matter, v),
         Body::Empty | Body::Offer(_) | Body::Ack(..) => unmet(b),
     }
 }
@@ -164,9 +157,9 @@ fn put_binding(s: &mut Server, at: usize, b: Binding)
 
 // A message that comes to the server. A dead one handles nothing.
 #[tactic(auto, using(rules::proofs::Kept::address_place), unfolding(rules::specs::Server::server_receives, rules::specs::Server::server_handles, rules::specs::Server::dropped))]
-pub fn server_receives(c: InRange, k: u32, r: u32, s: Server, m: Message) -> Reaction<Server>
-    requires { (k < c.servers) × (r ≤ last_reading) × T (body_in_range c m.sender k m.body) }
-    ensures { result ≡ server_receives c k r s m }
+pub fn server_receives(who: ServerAt, s: Server, m: Message) -> Reaction<Server>
+    requires { T (body_in_range who.config m.sender who.number m.body) }
+    ensures { result ≡ server_receives who.config who.number who.reading s m }
 {
     if !s.alive {
         return Reaction {
@@ -175,22 +168,17 @@ pub fn server_receives(c: InRange, k: u32, r: u32, s: Server, m: Message) -> Rea
             outbox: nothing(),
         };
     }
-    let a = address_for(c, r, &s, m.body);
-    let at = a as usize;
+    let matter = Matter {
+        party: m.sender,
+        interaction: m.interaction,
+        address: address_for(who, &s, m.body),
+    };
     let mut t = s;
     if is_request(m.body) {
-        t.reserved = drop_reservations(c.config.addresses, m.interaction, s.reserved);
+        t.reserved = drop_reservations(who.config.addresses, m.interaction, s.reserved);
     }
-    let x = handled_at(
-        c,
-        k,
-        r,
-        binding_at(&t, at),
-        m.sender,
-        m.interaction,
-        a,
-        m.body,
-    );
+    let at = matter.address as usize;
+    let x = handled_at(who, binding_at(&t, at), matter, m.body);
     put_binding(&mut t, at, x.after);
     Reaction {
         after: t,

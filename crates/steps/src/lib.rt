@@ -1,12 +1,19 @@
 // How a step is read: its kind decides it, and a step alone can break rules 4 and 5.
 #![tactic(auto)]
 
-ghost use Rattle.std.specs.Prelude.{◌≡◌};
-ghost use Rattle.types.specs.Numbers.{refusal_of};
+ghost use Rattle.std.specs.Prelude.{◌≡◌, MatchResult};
+ghost use Rattle.types.specs.Numbers.{refusal_number, refusal_of};
 ghost use Rattle.rules.specs.Steps.{action_of, malformed as malformed'};
 
 use arith::{as_signed, check};
 use types::{Action, LAST_END, Refusal, Step};
+
+// An action whose fields are in range, so that it breaks none of the rules 4 and 5.
+#[derive(Clone, Copy)]
+pub struct WellFormed {
+    pub action: Action,
+    ghost keeps_rules: { malformed' action 0 ≡ 0 },
+}
 
 // The kind number decides the step; fields follow.
 #[tactic(auto, unfolding(rules::specs::Steps::action_of))]
@@ -52,4 +59,13 @@ pub fn malformed(x: Action) -> Result<(), Refusal>
         | Action::Cleanup(_) => Ok(()),
         Action::Unknown => Err(Refusal::UnknownKind),
     }
+}
+
+// The action of a step that breaks none of these rules.
+pub fn formed(s: Step) -> Result<WellFormed, Refusal>
+    ensures { MatchResult result (λ a. a.action ≡ action_of s) (λ n. refusal_number n ≡ malformed' (action_of s) 0) }
+{
+    let action = action_of(s);
+    malformed(action)?;
+    Ok(WellFormed { action })
 }

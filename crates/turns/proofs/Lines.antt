@@ -108,7 +108,7 @@ module _ (s : List ℕ) (short : length s ≤ longest) where
 module _ (n : ℕ) (f : Facade) (s : List ℕ) (p k : ℕ) (r : Found) (e : r ≡ record_at s p) where
   -- refusal 3 ends the run
   module _ (t : r.refusal ≡ 3) where
-    pub ends_with : lines_from (suc n) f s p k ≡ last_lines (leb (length s) p) k f.time f.waiting (held_clients f)
+    pub ends_with : lines_from (suc n) f s p k ≡ last_lines f s p k
     unfolding lines_from
     ends_with = rw (← e, eq-eqb r.refusal 3 t)
 

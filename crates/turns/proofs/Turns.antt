@@ -4,14 +4,12 @@ use mathlib.Core.Bool.{Bool, true, false}
 use mathlib.Core.List.{List, ◌++◌}
 use Prim.Native.Nat.{ℕ, suc, ◌+◌, ◌*◌, ◌≤◌}
 use native.Mathlib.Omega.{arith}
-use lib.Dec.{leb}
-use lib.ListN.{length}
 use Rattle.std.specs.Prelude.{Result, Err, Ok}
 use Rattle.types.specs.declared.Outcome.{Outcome}
 use Rattle.types.specs.declared.Facade.{Facade}
 use Rattle.types.specs.declared.Refusal.{Refusal}
 use Rattle.rules.specs.Answers.{Answer, answer_of}
-use Rattle.rules.specs.Steps.{step, held_clients}
+use Rattle.rules.specs.Steps.{step}
 use Rattle.rules.proofs.Ranges.{step_sound}
 use Rattle.script.specs.Layout.{first_record, step_refusal}
 use Rattle.script.specs.Reading.{Found, longest, record_at, result_of}
@@ -27,10 +25,6 @@ use Rattle.turns.proofs.Lines.{moves_past, ends_with, ends_at_lem, goes_with, go
 -- a run is under way whether it has ended or not
 pub whether_ended : (s : List ℕ) (r : Progress) (ended : Bool) → UnderWay s r → UnderWay s (before r.facade r.place r.number ended)
 whether_ended s r ended u = record { sound = u.sound; counted = u.counted; placed = u.placed; short = u.short }
-
-facade_then : (x : Result Outcome Refusal) (f : Facade) → (answer_of x f).facade ≡ f
-facade_then (Ok n) f = refl
-facade_then (Err n) f = refl
 
 -- The turns of a run of script s are under way, with r to go on from and so many left: with their lines put, the page m is z, and
 -- the run behind them is x.
@@ -67,14 +61,14 @@ module _ {s : List ℕ} {x r : Progress} {z m : Page} {left : ℕ} (g : Going s 
 
     -- no record is found, and the lines that end the run have room
     module _ {y : Refusal} (q : Err y ≡ result_of (record_at s r.place)) where
-      are_last : lines_from (suc n) r.facade s r.place r.number ≡ last_lines (leb (length s) r.place) r.number r.facade.time r.facade.waiting (held_clients r.facade)
+      are_last : lines_from (suc n) r.facade s r.place r.number ≡ last_lines r.facade s r.place r.number
       are_last = ends_with n r.facade s r.place r.number (record_at s r.place) refl (none_at s r.place q).1
 
-      pub last_fit : HasRoom m (last_lines (leb (length s) r.place) r.number r.facade.time r.facade.waiting (held_clients r.facade))
+      pub last_fit : HasRoom m (last_lines r.facade s r.place r.number)
       last_fit = rw are_last at has_room
 
       -- with them put it is over
-      pub last_put : {m₁ : Page} → m₁ ≡ put m (last_lines (leb (length s) r.place) r.number r.facade.time r.facade.waiting (held_clients r.facade))
+      pub last_put : {m₁ : Page} → m₁ ≡ put m (last_lines r.facade s r.place r.number)
           → Over s x (before r.facade r.place r.number true) z m₁
       last_put o = record {
         run = (ends_at_lem n r.facade s r.place r.number (record_at s r.place) refl (none_at s r.place q).1 ∙ runs, whether_ended s r true g.way);
@@ -114,4 +108,4 @@ module _ {s : List ℕ} {x r : Progress} {z m : Page} {left : ℕ} (g : Going s 
 
     pub goes_on : {d : Record} → Ok d ≡ result_of (record_at s r.place) → (y : Result Outcome Refusal) (f : Facade) → answer_of y f ≡ step r.facade d.step
         → {m₁ : Page} → m₁ ≡ put m (answer_line r.number (answer_of y f)) → Going s x (before f d.next (r.number + 1) r.ended) z m₁ n
-    goes_on q y f e o = rw (facade_then y f) at (goes_round q (answer_of y f) e o)
+    goes_on q y f e o = goes_round q (answer_of y f) e o

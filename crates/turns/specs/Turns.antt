@@ -22,15 +22,15 @@ before f p k ended = record { facade = f; place = p; number = k; ended = ended }
 abbrev pub ends_at : List ℕ → ℕ → Bool
 ends_at s p = eqb (record_at s p).refusal 3
 
--- the lines that end a run where n clients hold: that of record k, which has refusal 3, unless the script is over; and the last one
-abbrev pub last_lines : Bool → ℕ → ℕ → ℕ → ℕ → List ℕ
-last_lines finished k t w n = cond finished [] (record_line k 3 0 t w) ++ held_line n
+-- the lines that end a run at place p: that of record k, which has refusal 3, unless the script is over; and the last one
+abbrev pub last_lines : Facade → List ℕ → ℕ → ℕ → List ℕ
+last_lines f s p k = cond (leb (length s) p) [] (record_line k 3 0 f.time f.waiting) ++ held_line (held_clients f)
 
 -- the lines of the n turns from the record at place p on, which is number k: a turn takes one record, and the last turn ends the run
 unfoldable pub lines_from : ℕ → Facade → List ℕ → ℕ → ℕ → List ℕ
 lines_from zero f s p k = []
 lines_from (suc n) f s p k =
-    cond (ends_at s p) (last_lines (leb (length s) p) k f.time f.waiting (held_clients f))
+    cond (ends_at s p) (last_lines f s p k)
     (answer_line k (step f (record_at s p).step) ++ lines_from n (step f (record_at s p).step).facade s (record_at s p).next (k + 1))
 
 -- the run behind them

@@ -1,48 +1,36 @@
 // The turns of a run: each record's step, and its line, put on a page.
 #![tactic(auto)]
 
-ghost use Rattle.std.specs.Prelude.{◌≡◌, length, leb};
+ghost use Rattle.std.specs.Prelude.{◌≡◌};
 ghost use Rattle.wire.specs.Pages.{put, HasRoom};
-ghost use Rattle.rules.specs.Answers.{answer_of};
-ghost use Rattle.rules.specs.Steps.{held_clients};
-ghost use Rattle.turns.specs.Turns.{answer_line, last_lines, lines_from, progress_from, UnderWay};
+ghost use Rattle.turns.specs.Turns.{last_lines, lines_from, progress_from, UnderWay};
 
 use facade::{held_clients, take_step};
-use report::{put_held_line, put_record_line};
+use report::{put_held_line, put_result_line};
 use script::record_at;
-use types::{Facade, Outcome, Refusal};
+use types::{Facade, Refusal};
 use wire::Page;
 
-// A run under way.
+// A run under way. The script stands beside it, since a run may be kept while the script is read elsewhere.
 #[derive(Clone, Copy)]
 pub struct Progress {
     pub facade: Facade,
     // the place of the next record in the script, and its number
     pub place: usize,
     pub number: u32,
-    // whether the last line is put; the facade is then the last one
+    // whether the last line is put; the facade is then the last one. No enum, since the other three are read in both states
     pub ended: bool,
 }
 
-// The line of record k, by the result of its step and the facade then.
-fn put_answer_line(page: &mut Page, k: u32, x: Result<Outcome, Refusal>, f: &Facade)
-    requires { HasRoom page.old (answer_line k (answer_of x f.now)) }
-    ensures { page.new ≡ put page.old (answer_line k (answer_of x f.now)) }
-{
-    match x {
-        Ok(n) => put_record_line(page, k, 0, u32::from(n), f.time, f.waiting),
-        Err(n) => put_record_line(page, k, u32::from(n), 0, f.time, f.waiting),
-    }
-}
-
-// The lines that end a run at record k are put: that of the record, unless the script is over, and the last one.
+// The lines that end the run r are put: that of the next record, unless the script is over, and the last one.
 #[tactic(auto, using(wire::proofs::Pages::pieces))]
-fn put_last_lines(page: &mut Page, finished: bool, k: u32, f: &Facade)
-    requires { HasRoom page.old (last_lines finished k f.now.time f.now.waiting (held_clients f.now)) }
-    ensures { page.new ≡ put page.old (last_lines finished k f.now.time f.now.waiting (held_clients f.now)) }
+fn put_last_lines(s: &[u8], r: &Progress, page: &mut Page)
+    requires { HasRoom page.old (last_lines r.now.facade s.now r.now.place r.now.number) }
+    ensures { page.new ≡ put page.old (last_lines r.now.facade s.now r.now.place r.now.number) }
 {
-    if !finished {
-        put_record_line(page, k, 3, 0, f.time, f.waiting);
+    let f = &r.facade;
+    if r.place < s.len() {
+        put_result_line(page, r.number, Err(Refusal::NoRecord), f.time, f.waiting);
     }
     put_held_line(page, held_clients(f));
 }
@@ -58,12 +46,12 @@ pub fn put_turns(s: &[u8], r: &mut Progress, page: &mut Page, most: u32)
         match record_at(s, r.place) {
             Err(_) => {
                 r.ended = true;
-                put_last_lines(page, s.len() <= r.place, r.number, &r.facade);
+                put_last_lines(s, r, page);
                 return;
             }
             Ok(d) => {
                 let x = take_step(&mut r.facade, d.step);
-                put_answer_line(page, r.number, x, &r.facade);
+                put_result_line(page, r.number, x, r.facade.time, r.facade.waiting);
                 r.place = d.next;
                 r.number += 1;
             }

@@ -4,6 +4,7 @@
 
 ghost use Rattle.std.specs.Prelude.{◌≡◌};
 ghost use Rattle.types.specs.Numbers.{outcome_number, refusal_number};
+ghost use Rattle.types.specs.Rows.{config_from, config_row, step_from, step_row};
 
 // The last true time.
 pub const LAST_TIME: u32 = 1000000000;
@@ -40,6 +41,48 @@ pub struct Config {
     pub mclt: u32,
     // θ, the reservation time
     pub retention: u32,
+}
+
+// The seven numbers, in the order of document 01.
+impl From<[u32; 7]> for Config {
+    ghost from_gives = { λ xs c. c ≡ config_from xs };
+
+    fn from(xs: [u32; 7]) -> Config {
+        let [
+            servers,
+            clients,
+            addresses,
+            skew,
+            detection,
+            mclt,
+            retention,
+        ] = xs;
+        Config {
+            servers,
+            clients,
+            addresses,
+            skew,
+            detection,
+            mclt,
+            retention,
+        }
+    }
+}
+
+impl From<Config> for [u32; 7] {
+    ghost from_gives = { λ c xs. xs ≡ config_row c };
+
+    fn from(c: Config) -> [u32; 7] {
+        [
+            c.servers,
+            c.clients,
+            c.addresses,
+            c.skew,
+            c.detection,
+            c.mclt,
+            c.retention,
+        ]
+    }
 }
 
 // The interaction κ in which an address was reserved, and the clock reading then.
@@ -115,7 +158,7 @@ pub struct Client {
 // What a message says besides its parties and κ.
 #[derive(Clone, Copy)]
 pub enum Body {
-    // no message: what an unused place holds
+    // no message: what an unused place holds; no `Option`, since document 01 names the array of messages
     Empty,
     Discover,
     // address
@@ -142,6 +185,16 @@ pub struct Message {
     pub body: Body,
 }
 
+// What a message is about to the server that handles it: who sent it, in which interaction, and the address.
+#[derive(Clone, Copy)]
+pub struct Matter {
+    pub party: u32,
+    // κ
+    pub interaction: u32,
+    pub address: u32,
+}
+
+// Each array has as many places as there may be, since there is no heap.
 #[derive(Clone, Copy)]
 pub struct Facade {
     pub config: Config,
@@ -149,13 +202,13 @@ pub struct Facade {
     pub time: u32,
     // the next interaction number κ
     pub next: u32,
-    // for each party, the signed amount by which its clock is ahead
+    // for each party, the signed amount by which its clock is ahead; beside the servers and clients, since a pass names a party
     pub offsets: [i32; 36],
     pub servers: [Server; 4],
-    // the true time of the last notice that server k had about server j, at k * 4 + j
-    pub notices: [u32; 16],
+    // the true time of the last notice that server k had about server j, at [k][j]
+    pub notices: [[u32; 4]; 4],
     pub clients: [Client; 32],
-    // in the order sent; those from `waiting` on are no part of the facade
+    // in the order sent; those from `waiting` on are no part of the facade. An array and a count: document 01 names that form
     pub messages: [Message; 128],
     pub waiting: u32,
 }
@@ -170,8 +223,32 @@ pub struct Step {
     pub third: u32,
 }
 
-// What a step says: its kind, with the fields that the kind has. `Unknown` is every other kind. `says` and `keep` are numbers, as a
-// record has them, since rule 5 judges them; a `bool` further on would ask more of callers, who may hand on any number.
+// A row of four numbers: kind and fields.
+impl From<[u32; 4]> for Step {
+    ghost from_gives = { λ xs s. s ≡ step_from xs };
+
+    fn from(xs: [u32; 4]) -> Step {
+        let [kind, first, second, third] = xs;
+        Step {
+            kind,
+            first,
+            second,
+            third,
+        }
+    }
+}
+
+impl From<Step> for [u32; 4] {
+    ghost from_gives = { λ s xs. xs ≡ step_row s };
+
+    fn from(s: Step) -> [u32; 4] {
+        [s.kind, s.first, s.second, s.third]
+    }
+}
+
+// What a step says: its kind, with the fields that the kind has. `Unknown` is every other kind, and no `None`, since rule 4 judges it
+// as rule 5 does the others. `says` and `keep` are numbers, as a record has them, since rule 5 judges them; a `bool` further on would
+// ask more of callers, who may hand on any number.
 #[derive(Clone, Copy)]
 pub enum Action {
     // d, party, e
@@ -233,7 +310,8 @@ pub enum Deed {
 }
 
 // What a party sends: the first `count` messages, in order. There is no heap for a `Vec`, and definitions say what each of the four
-// places holds, as the flat form has them.
+// places holds, as the flat form has them. That `count` is at most four is no ghost field: `post` and `to_others` take outboxes that
+// come to count five.
 #[derive(Clone, Copy)]
 pub struct Outbox {
     pub count: u32,
@@ -251,12 +329,8 @@ pub enum Outcome {
 impl From<Outcome> for u32 {
     ghost from_gives = { λ x n. n ≡ outcome_number x };
 
-    fn from(x: Outcome) -> u32 {
-        match x {
-            Outcome::Done => 0,
-            Outcome::Unmet => 1,
-            Outcome::Dead => 2,
-        }
+    fn from(outcome: Outcome) -> u32 {
+        outcome as u32
     }
 }
 
@@ -264,7 +338,7 @@ impl From<Outcome> for u32 {
 #[derive(Clone, Copy, PartialEq, Eq)]
 pub enum Refusal {
     // the script is too short, too long or of another version
-    NoScript,
+    NoScript = 1,
     // a number of a configuration or of a facade handed in is outside its range
     OutOfRange,
     // a record has no length, runs past the end, or has another length than its kind
@@ -289,22 +363,8 @@ pub enum Refusal {
 impl From<Refusal> for u32 {
     ghost from_gives = { λ x n. n ≡ refusal_number x };
 
-    fn from(x: Refusal) -> u32 {
-        match x {
-            Refusal::NoScript => 1,
-            Refusal::OutOfRange => 2,
-            Refusal::NoRecord => 3,
-            Refusal::UnknownKind => 4,
-            Refusal::FieldOutOfRange => 5,
-            Refusal::DoesNotExist => 6,
-            Refusal::WrongState => 7,
-            Refusal::NoTimeLeft => 8,
-            Refusal::ClockOff => 9,
-            Refusal::OutOfTouch => 10,
-            Refusal::NotCredible => 11,
-            Refusal::NoInteractionLeft => 12,
-            Refusal::Full => 13,
-        }
+    fn from(refusal: Refusal) -> u32 {
+        refusal as u32
     }
 }
 

@@ -9,7 +9,8 @@
 ghost use Rattle.std.specs.Prelude.{◌≡◌, OnOk};
 ghost use Rattle.rules.specs.Steps.{step as step'};
 
-use input::EXAMPLE;
+use arith::number_of;
+use input::{EXAMPLE, EXAMPLE_CONFIG};
 use std::io;
 use types::{Config, Facade, Step};
 
@@ -68,10 +69,9 @@ const FAILOVER: [[u32; 4]; 47] = [
 fn take(rt: &impl Print, f: &mut Facade, number: usize, s: Step) -> io::Result<()>
     ensures { OnOk result (f.new ≡ (step' f.old s).facade) }
 {
-    let (refusal, outcome) = match facade::step(f, s) {
-        Ok(x) => (0, u32::from(x)),
-        Err(n) => (u32::from(n), 0),
-    };
+    let x = facade::step(f, s);
+    let refusal = number_of(&x);
+    let outcome = x.map_or(0, u32::from);
     println!(rt; "{number} {refusal} {outcome} {} {}", f.time, f.waiting)
 }
 
@@ -79,30 +79,14 @@ fn take(rt: &impl Print, f: &mut Facade, number: usize, s: Step) -> io::Result<(
 fn walk(rt: &impl Print, c: Config, rows: &[[u32; 4]]) -> io::Result<()> {
     let mut f = facade::fresh(c);
     for (n, row) in rows.iter().enumerate() {
-        let [kind, first, second, third] = *row;
-        let s = Step {
-            kind,
-            first,
-            second,
-            third,
-        };
-        take(rt, &mut f, n + 1, s)?;
+        take(rt, &mut f, n + 1, Step::from(*row))?;
     }
     let held = facade::held_clients(&f);
     println!(rt; "held {held}")
 }
 
 fn main(rt: HostRuntime) -> io::Result<()> {
-    let small = Config {
-        servers: 2,
-        clients: 1,
-        addresses: 1,
-        skew: 0,
-        detection: 5,
-        mclt: 4,
-        retention: 10,
-    };
-    walk(&rt, small, &EXAMPLE)?;
+    walk(&rt, EXAMPLE_CONFIG, &EXAMPLE)?;
     let two = Config {
         servers: 2,
         clients: 2,

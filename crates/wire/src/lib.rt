@@ -14,14 +14,15 @@ pub fn number_at(s: &[u8], i: usize) -> u32
     u32::from_be_bytes([s[i], s[i + 1], s[i + 2], s[i + 3]])
 }
 
-// A signed number in two's complement. `arith::as_signed` is the way back.
+// A signed number in two's complement, by the flat form's name. `arith::as_signed` is the way back.
 pub fn complement(e: i32) -> u32
     ensures { result ≡ complement' e }
 {
     e.cast_unsigned()
 }
 
-// A lent buffer, and how much of it is put. What is put next goes behind that.
+// A lent buffer, and how much of it is put. What is put next goes behind that. That there is room is a clause: it is a fact of the
+// page and of what is put on it.
 #[derive(Drop)]
 pub struct Page<'a> {
     pub out: &'a mut [u8],

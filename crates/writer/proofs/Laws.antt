@@ -8,6 +8,7 @@ use lib.ListN.{length, get_or, take, length-append}
 use Rattle.std.specs.List.{flat_map}
 use Rattle.types.specs.declared.Config.{Config}
 use Rattle.types.specs.declared.Step.{Step}
+use Rattle.types.specs.Rows.{config_row}
 use Rattle.rules.specs.Conditions.{is_within}
 use Rattle.rules.specs.Steps.{action_of, is_known, malformed}
 use Rattle.rules.proofs.Laws.{unless_ok, within_high}
@@ -35,8 +36,7 @@ pub number_put : (p : Page) (ns : List ℕ) → HasRoom p (flat_map bytes_of ns)
 number_put = next_put bytes_of
 
 -- the version byte, and then the seven numbers
-pub header_is : (c : Config)
-    → header_of c ≡ (1 ∷ []) ++ flat_map bytes_of (c.servers ∷ c.clients ∷ c.addresses ∷ c.skew ∷ c.detection ∷ c.mclt ∷ c.retention ∷ [])
+pub header_is : (c : Config) → header_of c ≡ (1 ∷ []) ++ flat_map bytes_of (config_row c)
 unfolding header_of
 header_is c = refl
 

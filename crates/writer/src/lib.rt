@@ -7,12 +7,12 @@ ghost use Rattle.wire.specs.Pages.{put, HasRoom};
 ghost use Rattle.script.specs.Layout.{step_refusal, header_of, record_of, records_of, script_of};
 ghost use Rattle.script.specs.Writing.{steps_in, steps_refusal, written, written_as, script_into};
 
-use rows::{records_length, row_at, write_refusal};
+use rows::{records_length, write_refusal};
 use script::{FIRST_RECORD, fields_of};
 use types::{Config, Refusal, Step};
 use wire::Page;
 
-// Numbers in four bytes each.
+// Numbers in four bytes each. `report` has such a loop over what it puts: one function over a closure would promise in more words.
 #[tactic(auto, using(wire::proofs::Pages::put_none, wire::proofs::Pages::next_fits, crate::proofs::Laws::number_put))]
 fn put_numbers(page: &mut Page, numbers: &[u32])
     requires { HasRoom page.old (flat_map bytes_of numbers.now) }
@@ -30,16 +30,7 @@ fn put_header(page: &mut Page, c: Config)
     ensures { page.new ≡ put page.old (header_of c) }
 {
     page.put_byte(1);
-    let numbers = [
-        c.servers,
-        c.clients,
-        c.addresses,
-        c.skew,
-        c.detection,
-        c.mclt,
-        c.retention,
-    ];
-    put_numbers(page, &numbers);
+    put_numbers(page, &<[u32; 7]>::from(c));
 }
 
 // The record of a step that is not refused: length byte, kind byte and the fields of its kind.
@@ -55,13 +46,13 @@ fn put_record(page: &mut Page, s: Step)
 }
 
 // The records of the steps.
-#[tactic(auto, using(rows::proofs::Laws::kept_at, crate::proofs::Laws::none_put, crate::proofs::Laws::row_fits, crate::proofs::Laws::row_put))]
+#[tactic(auto, using(script::proofs::Rows::row_is, rows::proofs::Laws::kept_at, crate::proofs::Laws::none_put, crate::proofs::Laws::row_fits, crate::proofs::Laws::row_put))]
 fn put_records(page: &mut Page, l: &[u32])
     requires { (steps_refusal (steps_in l.now) ≡ 0) × HasRoom page.old (records_of (steps_in l.now)) }
     ensures { page.new ≡ put page.old (records_of (steps_in l.now)) }
 {
-    for n in 0..l.len() / 4 {
-        put_record(page, row_at(l, n));
+    for row in l.as_chunks::<4>().0 {
+        put_record(page, Step::from(*row));
     }
 }
 

@@ -6,12 +6,12 @@ use Rattle.rules.proofs.Refusals.{is_some_refusal}
 use Rattle.facade.proofs.Steps.{is_malformed}
 use Rattle.facade.proofs.take_step.Goals as goal
 
-pub returns-in_err-malformed : goal.returns-in_err-malformed
+pub returns-in_err-formed : goal.returns-in_err-formed
 unfolding step
-returns-in_err-malformed c =
-    let same : c.from_residual.result ≡ Err c.in_err-malformed.field-0.0 = search rules in
-    rw (same, ← c.action_of-a.ensures) (is_malformed _ c.requires _ _ c.in_err-malformed.ensures (is_some_refusal _))
+returns-in_err-formed c =
+    let same : c.from_residual.result ≡ Err c.in_err-formed.field-0.0 = search rules in
+    rw same (is_malformed _ c.requires _ _ c.in_err-formed.ensures (is_some_refusal _))
 
 pub returns : goal.returns
 unfolding step
-returns c = rw (← c.action_of-a.ensures) c.take.ensures
+returns c = rw (← c.in_ok-formed.ensures) c.take.ensures

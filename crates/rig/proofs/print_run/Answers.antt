@@ -1,5 +1,5 @@
-use mathlib.Core.Path.{refl, sym, ap, ◌∙◌, subst}
-use mathlib.Core.List.{◌++◌, append-nil, append_assoc}
+use mathlib.Core.Path.{refl, ap, ◌∙◌, subst}
+use mathlib.Core.List.{◌++◌, append_assoc}
 use Prim.Native.Nat.{ℕ}
 use lib.ListN.{length-replicate}
 use Rattle.std.specs.Io.KnownBytes.{Appends}
@@ -7,14 +7,11 @@ use Rattle.std.proofs.KnownBytes.{Appends-trans}
 use Rattle.turns.specs.Turns.{lines_from}
 use Rattle.replay.specs.Output.{first_line, piece_turns}
 use Rattle.replay.proofs.Whole.{is_begun}
-use Rattle.replay.proofs.Pieces.{rest_none, rest_begins, rest_goes_on, fewer_left, first_has_room, first_put, next_put}
+use Rattle.replay.proofs.Pieces.{rest_begins, rest_goes_on, fewer_left, first_has_room, first_put, next_put}
 use Rattle.rig.proofs.print_run.Goals as goal
 
 pub begin-r-requires : goal.begin-r-requires
 begin-r-requires g c = first_has_room c.args.s.now _ refl (length-replicate {0} {A = ℕ} 65536 0)
-
-pub bytes-requires : goal.bytes-requires
-bytes-requires g c = (first_put c.args.s.now _ _ (length-replicate {0} {A = ℕ} 65536 0) c.begin-r.ensures.page_after).within
 
 pub loop-r-init : goal.loop-r-init
 loop-r-init g c =
@@ -26,11 +23,6 @@ loop-r-init g c =
       under_way = is_begun s _ x.run;
       written = (first_line s, subst (Appends _ _) (c.bytes.ensures ∙ p.put) c.in_ok-write_all.ensures.bytes, rest_begins s _ x.run);
     }
-
-pub bytes-requires-in-loop-r : goal.bytes-requires-in-loop-r
-bytes-requires-in-loop-r g c =
-    let l = c.loop-r in
-    (next_put c.args.s.now l.page _ l.r (l.invariant.under_way c.loop-r-test.true) l.invariant.room c.go_on.ensures.page_after).within
 
 pub loop-r-smaller : goal.loop-r-smaller
 loop-r-smaller g c =
@@ -57,10 +49,3 @@ loop-r-preserved g c =
         append_assoc w.0 v _ ∙ ap (λ l. w.0 ++ l) (rest_goes_on s piece_turns r _ e x.run.0) ∙ w.2,
       );
     }
-
-pub returns : goal.returns
-returns g c =
-    let l = c.loop-r in
-    let w = l.invariant.written in
-    let none = rest_none c.args.s.now l.r c.loop-r-test.false in
-    subst (Appends _ _) (sym (append-nil w.0) ∙ ap (λ l. w.0 ++ l) (sym none) ∙ w.2) w.1

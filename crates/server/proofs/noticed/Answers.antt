@@ -1,6 +1,4 @@
-use Rattle.std.proofs.Common.{◌≡◌, sym, ◌∙◌, arith}
-use mathlib.Core.Path.{ap}
-use Rattle.types.specs.declared.Config.{Config}
+use Rattle.std.proofs.Common.{sym, ◌∙◌, arith}
 use native.Mathlib.Nat.{mod-eq_of_lt}
 use Rattle.rules.specs.Server.{leads_after, record_after, leading_with, noticed}
 use Rattle.leading.proofs.Laws.{led_none, led_more, led_all}
@@ -12,11 +10,9 @@ loop-a-init c = (sym (mod-eq_of_lt (omega arith)), led_none _ _ _ _ _)
 
 pub loop-a-preserved : goal.loop-a-preserved
 loop-a-preserved c =
-    let e : c.c.inside.config.servers ≡ c.args.c.servers = ap (λ (x : Config). x.servers) c.c.view_is in
-    (rw e at c.next_server-first.ensures ∙ next_first _ _ _ c.loop-a.invariant.0, led_more _ _ _ _ _ _ _ _ _ c.loop-a.invariant.1 (rw c.loop-a.invariant.0 at c.may_lead-now.ensures ∙ may_lead_lem c.args.c c.args.k c.args.r c.loop-a.t.returned _ _ c.loop-a.a) c.raised.ensures)
+    let w = c.args.who in
+    (c.next_server-first.ensures ∙ next_first _ _ _ c.loop-a.invariant.0, led_more _ _ _ _ _ _ _ _ _ c.loop-a.invariant.1 (rw (c.loop-a.invariant.0, c.known-c.ensures) at c.may_lead-now.ensures ∙ may_lead_lem w.config w.number w.reading c.loop-a.t.returned _ _ c.loop-a.a) (rw c.known-c.ensures at c.raised.ensures))
 
 pub returns : goal.returns
 unfolding noticed leading_with leads_after record_after
-returns c =
-    let e : c.c.inside.config.addresses ≡ c.args.c.addresses = ap (λ (x : Config). x.addresses) c.c.view_is in
-    rw (c.done.ensures, led_all _ _ _ _ _ _ _ (omega (arith, e)) c.loop-a.invariant.1)
+returns c = rw (c.done.ensures, led_all _ _ _ _ _ _ _ (omega arith) c.loop-a.invariant.1)

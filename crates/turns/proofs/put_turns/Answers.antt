@@ -19,13 +19,13 @@ returns-in-Err c =
     let o = last_put c.loop-i.invariant (c.args.most - (c.loop-i.i + 1)) (omega (arith, c.loop-i-test.true)) (sym c.in-Err.is ∙ c.record_at.ensures) c.put_last_lines.ensures in
     record { progress_after = o.run; page_after = o.page }
 
-pub put_answer_line-requires : goal.put_answer_line-requires
-put_answer_line-requires c =
+pub put_result_line-requires : goal.put_result_line-requires
+put_result_line-requires c =
     line_fits c.loop-i.invariant (c.args.most - (c.loop-i.i + 1)) (omega (arith, c.loop-i-test.true)) (sym c.in-Ok.is ∙ c.record_at.ensures) _ c.take_step-x.ensures
 
 pub loop-i-preserved : goal.loop-i-preserved
 loop-i-preserved c =
-    goes_on c.loop-i.invariant (c.args.most - (c.loop-i.i + 1)) (omega (arith, c.loop-i-test.true)) (sym c.in-Ok.is ∙ c.record_at.ensures) c.take_step-x.result c.take_step-x.new.f c.take_step-x.ensures c.put_answer_line.ensures
+    goes_on c.loop-i.invariant (c.args.most - (c.loop-i.i + 1)) (omega (arith, c.loop-i-test.true)) (sym c.in-Ok.is ∙ c.record_at.ensures) c.take_step-x.result c.take_step-x.new.f c.take_step-x.ensures c.put_result_line.ensures
 
 pub returns : goal.returns
 returns c =
