@@ -79,7 +79,8 @@ fn notice_barred(f: &Facade, k: u32, j: u32, says: u32) -> Result<(), Refusal>
     )
 }
 
-// Refusals 6, 8, 9 and 10 of a pass.
+// Refusals 6, 8, 9 and 10 of a pass. Its d, party and e stand side by side here, in `Action`, in `Deed` and in `moved`, as a record
+// has them.
 #[tactic(auto, using(rules::proofs::Laws::tests, rules::proofs::Sizes::world_sizes, rules::proofs::Sizes::world_time, rules::proofs::Sizes::world_offset, crate::proofs::Laws::pass_fields, std::proofs::lemmas::Int::ints), unfolding(rules::specs::Conditions::unless, rules::specs::Steps::barred, rules::specs::Steps::exists, rules::specs::Steps::state_allows, rules::specs::Steps::of_pass, rules::specs::Steps::time_left, rules::specs::Steps::clock_allows, rules::specs::Steps::in_touch, rules::specs::Steps::of_notice, rules::specs::Steps::interaction_left))]
 fn pass_barred(f: &Facade, d: u32, p: u32, e: i32) -> Result<(), Refusal>
     requires { WorldInRange f.now × (malformed (pass d p e) 0 ≡ 0) }

@@ -1,13 +1,8 @@
-use mathlib.Core.Path.{◌≡◌, refl, sym, ◌∙◌}
+use mathlib.Core.Path.{sym, ◌∙◌}
 use Prim.Native.Nat.{◌+◌, ◌-◌}
 use native.Mathlib.Omega.{arith}
-use Rattle.turns.proofs.Turns.{whether_ended, line_fits, none_left, last_fit, last_put, goes_on}
+use Rattle.turns.proofs.Turns.{line_fits, none_left, last_fit, last_put, goes_on}
 use Rattle.turns.proofs.put_turns.Goals as goal
-
-pub loop-i-init : goal.loop-i-init
-loop-i-init c =
-    let all : c.args.most - 0 ≡ c.args.most = omega arith in
-    rw all (record { ended = refl; way = whether_ended _ c.args.r.now _ c.requires.0; room = c.requires.1; page = refl; run = refl })
 
 pub put_last_lines-requires : goal.put_last_lines-requires
 put_last_lines-requires c =
