@@ -2,7 +2,7 @@
 // `facade` says why.
 #![tactic(auto)]
 
-ghost use Rattle.std.specs.Prelude.{◌≡◌, cond, Some, None, T, ltb};
+ghost use Rattle.std.specs.Prelude.{◌≡◌, cond, Some, None, ltb};
 ghost use Rattle.types.specs.Numbers.{refusal_of};
 ghost use Rattle.rules.specs.Conditions.{unless};
 ghost use Rattle.rules.specs.Parts.{server_at, state_at, message_at};

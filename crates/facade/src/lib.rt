@@ -8,7 +8,7 @@ ghost use Rattle.types.specs.declared.Refusal.TheVariants.{Full};
 ghost use Rattle.types.specs.declared.Deed.TheVariants.{Serves, Asks};
 ghost use Rattle.rules.specs.Answers.{answer_of};
 ghost use Rattle.rules.specs.Ranges.{in_range};
-ghost use Rattle.rules.specs.Steps.{fresh as fresh', malformed as malformed', start as start', enacted, answer_to, step as step', held_clients};
+ghost use Rattle.rules.specs.Steps.{fresh as fresh', start as start', enacted, answer_to, step as step', held_clients};
 ghost use Rattle.cable.specs.Exchange.{room_for, taken_from};
 ghost use Rattle.deeds.specs.Deeds.{event_in_range};
 ghost use Rattle.facade.specs.Full.{unless_full};

@@ -15,7 +15,7 @@ ghost use Rattle.firmware.specs.Firmware.{leaves, result_left, party_left, are_l
 use arith::{check, number_of};
 use device::Device;
 use flat::{Coded, Cursor, Flat};
-use types::{Config, Message, Reaction, Refusal};
+use types::{Config, Message, Outbox, Reaction, Refusal};
 
 // The device of that number and clock reading, of which lists code the configuration and the party, a server or a client, with
 // room for what is sent. Refusal 2 where they do not fit.
@@ -30,8 +30,8 @@ fn read_device<T: Coded>(
     ensures fits { result ≡ cond (are_lists (codes T.numbers T.value T.WIDTH) config.now party.now sent.now) (Ok (record { config = config_in config.now 0; number = number; reading = reading; value = T.value party.now 0 })) (Err OutOfRange) }
     ensures ok { OnOk result ((length party.now ≡ T.WIDTH) × (length sent.now ≡ 29)) }
 {
-    check(config.len() == 7, Refusal::OutOfRange)?;
-    check(sent.len() == 29, Refusal::OutOfRange)?;
+    check(config.len() == Config::width(), Refusal::OutOfRange)?;
+    check(sent.len() == Outbox::width(), Refusal::OutOfRange)?;
     check(T::is_coded_by(party), Refusal::OutOfRange)?;
     Ok(Device {
         config: Config::read(Cursor::new(config)),

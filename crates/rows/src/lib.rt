@@ -2,7 +2,7 @@
 // refused. The list is flat, as C hands it; numbers behind the last whole row are no step.
 #![tactic(auto)]
 
-ghost use Rattle.std.specs.Prelude.{◌≡◌, ◌&&◌, ◌+◌, ◌*◌, ◌≤◌, nat_le, length};
+ghost use Rattle.std.specs.Prelude.{◌≡◌, ◌&&◌, ◌+◌, ◌*◌, nat_le, length};
 ghost use Rattle.types.specs.Numbers.{refusal_of};
 ghost use Rattle.script.specs.Layout.{records_of, first_record};
 ghost use Rattle.script.specs.Reading.{longest};

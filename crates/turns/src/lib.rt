@@ -11,7 +11,7 @@ use script::record_at;
 use types::{Facade, Refusal};
 use wire::Page;
 
-// A run under way. The script stands beside it, since a run may be kept while the script is read elsewhere.
+// A run under way. The script stands beside it: a run is a value, which borrows nothing.
 #[derive(Clone, Copy)]
 pub struct Progress {
     pub facade: Facade,
