@@ -16,7 +16,7 @@ pub fn check(ok: bool, n: Refusal) -> Result<(), Refusal>
 }
 
 // The number of a refusal, 0 if there is none, as output and C have it.
-pub fn number_of<T>(x: &Result<T, Refusal>) -> u32
+pub fn refusal_of<T>(x: &Result<T, Refusal>) -> u32
     ensures { result ≡ refusal_of x.now }
 {
     match x {

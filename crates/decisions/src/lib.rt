@@ -36,7 +36,7 @@ fn last_change(f: &Facade, k: u32) -> u32
 }
 
 // The state of client i; one that does not exist is idle.
-fn state_of(f: &Facade, i: u32) -> State
+fn state_at(f: &Facade, i: u32) -> State
     ensures { result ≡ state_at f.now i }
 {
     f.clients.get(i as usize).map_or(State::Idle, |y| y.state)
@@ -112,9 +112,9 @@ pub fn barred(f: &Facade, a: WellFormed) -> Result<(), Refusal>
         Action::Fail(k) | Action::Cleanup(k) => server_barred(c, k, is_alive(f, k)),
         Action::Return(k) => server_barred(c, k, !is_alive(f, k)),
         Action::Notice(k, j, says) => notice_barred(f, k, j, says),
-        Action::Discover(i) => client_barred(c, i, !is_holding(state_of(f, i)), left),
-        Action::Request(i, _) => client_barred(c, i, is_offered(state_of(f, i)), true),
-        Action::Renew(i, _) => client_barred(c, i, is_holding(state_of(f, i)), left),
+        Action::Discover(i) => client_barred(c, i, !is_holding(state_at(f, i)), left),
+        Action::Request(i, _) => client_barred(c, i, is_offered(state_at(f, i)), true),
+        Action::Renew(i, _) => client_barred(c, i, is_holding(state_at(f, i)), left),
         Action::Deliver(p, _) | Action::Lose(p) => check(p < f.waiting, Refusal::DoesNotExist),
         Action::Unknown => Ok(()),
     }
@@ -122,7 +122,7 @@ pub fn barred(f: &Facade, a: WellFormed) -> Result<(), Refusal>
 
 // The position of the message that a step takes out, if it takes one out.
 #[tactic(auto, unfolding(rules::specs::Steps::takes_out, rules::specs::Steps::position))]
-pub fn taken_out(a: Action) -> Option<u32>
+pub fn position_taken(a: Action) -> Option<u32>
     ensures { result ≡ cond (takes_out a) (Some (position a)) None }
 {
     match a {

@@ -28,11 +28,3 @@ DeedInRange f Rests = Unit
 DeedInRange f (Passes d p e) = (f.time + d ≤ last_time) × (p < parties f.config) × (nat_abs e ≤ 2000)
 DeedInRange f (Serves k e) = (k < f.config.servers) × T (event_in_range f.config k e)
 DeedInRange f (Asks i e) = i < f.config.clients
-
--- server k of a facade after an event
-abbrev pub served : Facade → ℕ → ServerEvent → Reaction Server
-served f k e = server_after f.config f.time k (clock f k) (server_at f k) e
-
--- client i of a facade after an event
-abbrev pub asked : Facade → ℕ → ClientEvent → Reaction Client
-asked f i e = client_after f.config f.next i (clock f (client_party f.config i)) (state_at f i) e

@@ -4,8 +4,9 @@
 
 ghost use Rattle.std.specs.Prelude.{◌≡◌, ◌≤◌, ◌<◌, T};
 ghost use Rattle.rules.specs.Parts.{with_life, with_notices};
-ghost use Rattle.rules.specs.Steps.{server_after, notices_after, client_after, next_after};
-ghost use Rattle.deeds.specs.Deeds.{event_in_range, served, asked};
+ghost use Rattle.rules.specs.Messages.{answer};
+ghost use Rattle.rules.specs.Steps.{server_after, notices_after, client_after, next_after, served, asked};
+ghost use Rattle.deeds.specs.Deeds.{event_in_range};
 ghost use Rattle.rules.specs.Ranges.{after_last};
 ghost use Rattle.rules.proofs.Sizes.{WorldInRange};
 
@@ -16,48 +17,45 @@ use ranges::{ClientOf, ServerAt};
 use types::{Client, ClientEvent, Facade, Reaction, Server, ServerEvent, State};
 
 // Server s is alive or not from true time t on.
-fn with_life(s: Server, alive: bool, t: u32) -> Server
-    ensures { result ≡ with_life s alive t }
+fn put_life(s: &mut Server, alive: bool, t: u32)
+    ensures { s.new ≡ with_life s.old alive t }
 {
-    Server {
-        alive,
-        changed: t,
-        ..s
-    }
+    s.alive = alive;
+    s.changed = t;
 }
 
-// A server of value s after an event at true time t.
+// Server s after an event at true time t.
 #[tactic(auto, using(crate::proofs::Laws::about_low, crate::proofs::Laws::body_ready), unfolding(rules::specs::Steps::server_after))]
-fn server_after(who: ServerAt, t: u32, s: Server, e: ServerEvent) -> Reaction<Server>
+fn server_after(who: ServerAt, t: u32, s: &mut Server, e: ServerEvent) -> Reaction<()>
     requires { T (event_in_range who.config who.number e) }
-    ensures { result ≡ server_after who.config t who.number who.reading s e }
+    ensures { answer s.new result.outcome result.outbox ≡ server_after who.config t who.number who.reading s.old e }
 {
     match e {
-        ServerEvent::Fails => done(with_life(s, false, t)),
-        ServerEvent::Returns => done(with_life(
-            server::after_return(who.reading, s).after,
-            true,
-            t,
-        )),
+        ServerEvent::Receives(m) => return server::server_receives(who, s, m),
+        ServerEvent::Fails => put_life(s, false, t),
+        ServerEvent::Returns => {
+            server::after_return(who.reading, s);
+            put_life(s, true, t);
+        }
         ServerEvent::Notices(j, says) => server::noticed(who, s, j, says),
-        ServerEvent::Receives(m) => server::server_receives(who, s, m),
         ServerEvent::CleansUp => server::cleaned(who.known(), who.reading, s),
     }
+    done(())
 }
 
-// Server k of a facade after an event, by its clock.
+// Server k of a facade, which is s, after an event by its clock. The facade keeps what it has of the server, since a step may be
+// refused yet.
 #[tactic(auto, using(rules::proofs::Sizes::world_sizes, rules::proofs::Sizes::world_time, rules::proofs::Sizes::world_reading, std::proofs::lemmas::Int::ints))]
-pub fn served(f: &Facade, k: u32, e: ServerEvent) -> Reaction<Server>
+pub fn served(f: &Facade, k: u32, s: &mut Server, e: ServerEvent) -> Reaction<()>
     requires { WorldInRange f.now × (k < f.now.config.servers) × T (event_in_range f.now.config k e) }
-    ensures { result ≡ served f.now k e }
+    ensures { answer s.new result.outcome result.outbox ≡ served f.now k s.old e }
 {
-    let at = k as usize;
     let who = ServerAt {
         config: f.config,
         number: k,
-        reading: clock_reading(f.time, f.offsets[at]),
+        reading: clock_reading(f.time, f.offsets[k as usize]),
     };
-    server_after(who, f.time, f.servers[at], e)
+    server_after(who, f.time, s, e)
 }
 
 // The notice times after it.

@@ -1,12 +1,13 @@
 // What the firmware of one server, or of one client, calls. Nothing is trusted: what is refused changes and sends nothing.
 #![tactic(auto)]
 
-ghost use Rattle.std.specs.Prelude.{◌≡◌, ◌≤◌, Bool, true, false, ltb, MatchResult, IfOk, T};
+ghost use Rattle.std.specs.Prelude.{◌≡◌, ◌≤◌, ◌<◌, Bool, true, false, ltb, MatchResult, IfOk, T};
 ghost use Rattle.types.specs.declared.Config.{Config};
 ghost use Rattle.types.specs.declared.Refusal.TheVariants.{OutOfRange, DoesNotExist};
 ghost use Rattle.types.specs.Numbers.{refusal_of};
 ghost use Rattle.rules.specs.Conditions.{◌and◌, unless};
 ghost use Rattle.rules.specs.Ranges.{config_in_range, reading_in_range, server_in_range, state_in_range, last_time, after_last, last_reading, body_in_range, is_server};
+ghost use Rattle.rules.specs.Server.{noticed};
 ghost use Rattle.device.specs.Device.{message_fits, reply_of, device_receives, device_noticed, device_returned, device_cleaned, device_hears, device_discovers, device_requests, device_renews, device_lapses};
 
 use arith::check;
@@ -78,7 +79,7 @@ fn check_message(c: InRange, p: u64, m: Message) -> Result<(), Refusal>
 }
 
 // Server k at its clock reading r, or refusal 6 where there is none.
-fn server_at(c: InRange, k: u32, r: u32) -> Result<ServerAt, Refusal>
+fn checked_server(c: InRange, k: u32, r: u32) -> Result<ServerAt, Refusal>
     requires { r ≤ last_reading }
     ensures { MatchResult result (λ w. (w.config ≡ c) × (w.number ≡ k) × (w.reading ≡ r) × (is_server c k ≡ true)) (λ n. (n ≡ DoesNotExist) × (is_server c k ≡ false)) }
 {
@@ -110,8 +111,24 @@ pub fn device_receives(d: Device<Server>, m: Message) -> Result<Reaction<Server>
 {
     let c = check_device(&d)?;
     check_message(c, u64::from(d.number), m)?;
-    let who = server_at(c, d.number, d.reading)?;
-    Ok(server::server_receives(who, d.value, m))
+    let who = checked_server(c, d.number, d.reading)?;
+    let mut s = d.value;
+    let x = server::server_receives(who, &mut s, m);
+    Ok(Reaction {
+        after: s,
+        outcome: x.outcome,
+        outbox: x.outbox,
+    })
+}
+
+// What the server is after a notice. Apart from the tests that stand before it: in one function the check leaves a goal to prove.
+fn noticed(who: ServerAt, s: Server, about: u32, says: u32) -> Reaction<Server>
+    requires { about < who.config.servers }
+    ensures { result ≡ noticed who.config who.number who.reading s about says }
+{
+    let mut t = s;
+    server::noticed(who, &mut t, about, says);
+    done(t)
 }
 
 // A notice: server `about` is dead (0) or alive (1).
@@ -121,12 +138,12 @@ pub fn device_noticed(d: Device<Server>, about: u32, says: u32) -> Result<Reacti
 {
     let c = check_device(&d)?;
     malformed(Action::Notice(d.number, about, says))?;
-    let who = server_at(c, d.number, d.reading)?;
+    let who = checked_server(c, d.number, d.reading)?;
     check(
         about < who.config.servers && about != who.number,
         Refusal::DoesNotExist,
     )?;
-    Ok(server::noticed(who, d.value, about, says))
+    Ok(noticed(who, d.value, about, says))
 }
 
 // The server comes back after a failure. Whether it is alive is not its own to say: `alive` stays as given.
@@ -135,8 +152,10 @@ pub fn device_returned(d: Device<Server>) -> Result<Reaction<Server>, Refusal>
     ensures { reply_of d.value result ≡ device_returned d.config d.number d.reading d.value }
 {
     let c = check_device(&d)?;
-    let who = server_at(c, d.number, d.reading)?;
-    Ok(server::after_return(who.reading, d.value))
+    let who = checked_server(c, d.number, d.reading)?;
+    let mut s = d.value;
+    server::after_return(who.reading, &mut s);
+    Ok(done(s))
 }
 
 // Old reservations are dropped.
@@ -145,8 +164,10 @@ pub fn device_cleaned(d: Device<Server>) -> Result<Reaction<Server>, Refusal>
     ensures { reply_of d.value result ≡ device_cleaned d.config d.number d.reading d.value }
 {
     let c = check_device(&d)?;
-    let who = server_at(c, d.number, d.reading)?;
-    Ok(server::cleaned(who.known(), who.reading, d.value))
+    let who = checked_server(c, d.number, d.reading)?;
+    let mut s = d.value;
+    server::cleaned(who.known(), who.reading, &mut s);
+    Ok(done(s))
 }
 
 // A message comes to the client.

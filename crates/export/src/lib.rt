@@ -14,7 +14,7 @@ ghost use Rattle.script.specs.Reading.{verdict as verdict'};
 ghost use Rattle.replay.specs.Output.{output_length, output_into};
 ghost use Rattle.export.specs.Export.{fresh_refusal, fresh_numbers, stepped_refusal, stepped_numbers, stepped_outcome, written_refusal, written_script, written_length};
 
-use arith::{check, number_of};
+use arith::{check, refusal_of};
 use facade::{start, step};
 use flat::{Coded, Cursor, Flat};
 use types::{Config, Facade, Outcome, Refusal, Step};
@@ -38,7 +38,7 @@ pub fn hoyllaqe_fresh(config: &[u32], facade: &mut [u32]) -> u32
     ensures facade_after { facade.new ≡ fresh_numbers config.now facade.old }
     ensures codes { result ≡ 0 → codes_facade facade.new ≡ true }
 {
-    number_of(&put_fresh(config, facade))
+    refusal_of(&put_fresh(config, facade))
 }
 
 // A step of a facade in its flat form.
@@ -72,14 +72,14 @@ pub fn hoyllaqe_step(
 {
     let x = take_step(facade, Step::from([kind, first, second, third]));
     *outcome = x.map_or(0, u32::from);
-    number_of(&x)
+    refusal_of(&x)
 }
 
 // The first of refusals 1 to 5 that reading the script through meets.
 pub fn hoyllaqe_verdict(script: &[u8]) -> u32
     ensures { result ≡ verdict' script.now }
 {
-    number_of(&script::verdict(script))
+    refusal_of(&script::verdict(script))
 }
 
 // The script of a configuration and of steps of four numbers each.
@@ -102,7 +102,7 @@ pub fn hoyllaqe_write(config: &[u32], steps: &[u32], script: &mut [u8], size: &m
 {
     let x = write(config, steps, script);
     *size = x.unwrap_or(0);
-    number_of(&x)
+    refusal_of(&x)
 }
 
 // What the program `rig` prints for a script, and how many bytes that is.

@@ -1,5 +1,5 @@
 -- What a step of a facade in range leaves, by what happens in it.
-use mathlib.Core.Path.{◌≡◌, refl, ◌∙◌}
+use mathlib.Core.Path.{◌≡◌, refl, sym, ◌∙◌}
 use mathlib.Core.Bool.{true, false}
 use Prim.Native.Nat.{ℕ, ◌+◌, ◌≤◌, ◌<◌}
 use native.Mathlib.Omega.{arith}
@@ -10,6 +10,7 @@ use Rattle.types.specs.declared.Server.{Server}
 use Rattle.types.specs.declared.State.{State}
 use Rattle.types.specs.declared.Client.{Client}
 use Rattle.types.specs.declared.Outbox.{Outbox}
+use Rattle.types.specs.declared.Outcome.{Outcome}
 use Rattle.types.specs.declared.Facade.{Facade}
 use Rattle.rules.specs.Answers.{Answer}
 use Rattle.types.specs.declared.Reaction.{Reaction}
@@ -20,14 +21,13 @@ use Rattle.types.specs.declared.ClientEvent.TheVariants.{Discovers, Requests, Re
 use Rattle.types.specs.declared.Deed.TheVariants.{Serves, Asks}
 use Rattle.types.specs.Numbers.{outcome_number}
 use Rattle.rules.specs.Conditions.{unless}
-use Rattle.rules.specs.Parts.{with_server, with_notices, with_client, with_next}
-use Rattle.rules.specs.Messages.{send_all}
+use Rattle.rules.specs.Parts.{server_at, with_server, with_notices, with_client, with_next}
+use Rattle.rules.specs.Messages.{answer, send_all}
 use Rattle.rules.specs.Server.{noticed, cleaned}
-use Rattle.rules.specs.Steps.{server_after, notices_after, client_after, next_after, has_room, accepted, refused, enacted}
+use Rattle.rules.specs.Steps.{server_after, notices_after, client_after, next_after, has_room, accepted, refused, served, asked, enacted}
 use Rattle.rules.proofs.Counts.{few_received, few_discovers, few_requests, few_renews, few_replied}
 use Rattle.cable.specs.Exchange.{rest_of, room_for, taken_from}
 use Rattle.cable.proofs.Laws.{rest_high}
-use Rattle.deeds.specs.Deeds.{served, asked}
 use Rattle.facade.specs.Full.{unless_full}
 
 -- no party sends more than an outbox holds
@@ -48,12 +48,12 @@ few_asked c few n i r x (Hears m) = few_replied r x m
 
 -- What a party is told, where the message at a position is taken out first, if one is named.
 module _ (f : Facade) where
-  pub serves_is : (taken : Option ℕ) (k : ℕ) (e : ServerEvent) {x : Reaction Server} → x ≡ served f k e
+  pub serves_is : (taken : Option ℕ) (k : ℕ) (e : ServerEvent) {s : Server} {n : Outcome} {o : Outbox} → answer s n o ≡ served f k (server_at f k) e
       → enacted (taken_from f taken) (Serves k e)
-      ≡ accepted (send_all (taken_from (with_server (with_notices f (notices_after f.notices f.time k e)) k x.after) taken) x.outbox) (outcome_number x.outcome)
+      ≡ accepted (send_all (taken_from (with_server (with_notices f (notices_after f.notices f.time k e)) k s) taken) o) (outcome_number n)
   unfolding enacted taken_from
-  serves_is None k e h = rw h
-  serves_is (Some p) k e h = rw h
+  serves_is None k e h = rw (sym h)
+  serves_is (Some p) k e h = rw (sym h)
 
   pub asks_is : (taken : Option ℕ) (i : ℕ) (e : ClientEvent) {x : Reaction Client} → x ≡ asked f i e
       → enacted (taken_from f taken) (Asks i e)

@@ -18,7 +18,7 @@ use Rattle.types.specs.declared.Deed.TheVariants.{Rests, Passes, Serves, Asks}
 use Rattle.rules.specs.Conditions.{is_within, unless}
 use Rattle.rules.specs.Parts.{message_at, offset_at}
 use Rattle.rules.specs.Messages.{without}
-use Rattle.rules.specs.Ranges.{in_range, is_server, message_in_range}
+use Rattle.rules.specs.Ranges.{in_range, is_server, message_in_range, last_time}
 use Rattle.rules.specs.Views.{View, whole}
 use Rattle.rules.specs.Steps.{Action, pass, fail, return, notice, discover, request, renew, deliver, lose, cleanup, unknown, fields_in_range, exists, of_pass, time_left, malformed, barred, broken, accepted, refused, delivered, deed_of, position, takes_out, taken_out, moved, lapse, enacted, effect, answer_to, unless_refused, full}
 use Rattle.rules.proofs.Laws.{and_l, and_r, cond_case, unless_ok}
@@ -177,7 +177,7 @@ module _ (f : Facade) (t : T (in_range f)) (a : Action) (form : malformed a 0 �
     rests_is k = room (taken_from f taken) 0 (taken_high f taken decided_there.0) ∙ rw k at is_done
 
     module _ (n p : ℕ) (z : ℤ) (k : d ≡ Passes n p z) where
-      pub pass_fits : (f.time + n ≤ 1000000000) × (p < 36) × (nat_abs (offset_at f p) ≤ 1000) × (nat_abs z ≤ 2000)
+      pub pass_fits : (f.time + n ≤ last_time) × (p < 36) × (nat_abs (offset_at f p) ≤ 1000) × (nat_abs z ≤ 2000)
       unfolding DeedInRange
       pass_fits = let r = rw k at decided_fits in (r.0, omega (arith, r.1, sizes f t), offset_high f t p r.1, r.2)
 

@@ -17,7 +17,7 @@ use arith::check;
 use cable::{room_for, send_all, take_from};
 use client::held_among;
 use clocks::{lapse, moved};
-use decisions::{barred, deed_of, taken_out};
+use decisions::{barred, deed_of, position_taken};
 use deeds::{asked, next_after, notices_after, served};
 use ranges::{checked, in_range};
 use steps::{WellFormed, formed};
@@ -81,10 +81,11 @@ fn serve(f: &mut Facade, taken: Option<u32>, k: u32, e: ServerEvent) -> Result<O
     requires { T (in_range f.old) × (k < f.old.config.servers) × T (event_in_range f.old.config k e) × IfSome taken (λ p. p < f.old.waiting) }
     ensures { answer_of result f.new ≡ unless_full f.old (enacted (taken_from f.old taken) (Serves k e)) }
 {
-    let x = served(f, k, e);
+    let mut s = f.servers[k as usize];
+    let x = served(f, k, &mut s, e);
     fits(f, taken, &x.outbox)?;
     notices_after(f, k, e);
-    f.servers[k as usize] = x.after;
+    f.servers[k as usize] = s;
     take_from(f, taken);
     send_all(f, &x.outbox);
     Ok(x.outcome)
@@ -112,7 +113,7 @@ fn take(f: &mut Facade, a: WellFormed) -> Result<Outcome, Refusal>
     ensures { answer_of result f.new ≡ answer_to f.old a.action }
 {
     barred(f, a)?;
-    let taken = taken_out(a.action);
+    let taken = position_taken(a.action);
     match deed_of(f, a.action) {
         Deed::Rests => {
             take_from(f, taken);

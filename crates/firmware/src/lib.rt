@@ -12,7 +12,7 @@ ghost use Rattle.flat.specs.Flat.{config_in, message_in, codes_message};
 ghost use Rattle.device.specs.Device.{Reply, reply_of};
 ghost use Rattle.firmware.specs.Firmware.{leaves, result_left, party_left, are_lists, receive_message_left, take_notice_left, come_back_left, clean_up_left, receive_reply_left, discover_left, request_left, renew_left, pass_time_left};
 
-use arith::{check, number_of};
+use arith::{check, refusal_of};
 use device::Device;
 use flat::{Coded, Cursor, Flat};
 use types::{Config, Message, Outbox, Reaction, Refusal};
@@ -52,7 +52,7 @@ fn put_reply<T: Coded>(
     requires { OnOk x ((length party.old ≡ T.WIDTH) × (length sent.old ≡ 29)) }
     ensures { leaves result party.new sent.new outcome.new ≡ result_left T.numbers x party.old sent.old }
 {
-    let refusal = number_of(&x);
+    let refusal = refusal_of(&x);
     match x {
         Ok(x) => {
             x.after.put(party);
@@ -67,7 +67,7 @@ fn put_reply<T: Coded>(
 // The device's step, on lists, which stand one by one as C hands them. It is handed what they code, and its reply is put. Where
 // every answer that it may give is the reply z, they are left as z leaves them.
 #[tactic(auto, using(device::proofs::Laws::not_none), unfolding(crate::specs::Firmware::party_left))]
-fn answered<T: Coded, F: FnOnce(Device<T>) -> Result<Reaction<T>, Refusal>>(
+fn replied<T: Coded, F: FnOnce(Device<T>) -> Result<Reaction<T>, Refusal>>(
     config: &[u32],
     number: u32,
     reading: u32,
@@ -106,7 +106,7 @@ pub extern "C" fn hoyllaqe_receive_message(
 ) -> u32
     ensures { leaves result server.new sent.new outcome.new ≡ receive_message_left config.now number reading server.old message.now sent.old }
 {
-    answered(config, number, reading, server, sent, outcome, |d| {
+    replied(config, number, reading, server, sent, outcome, |d| {
         device::device_receives(d, message_of(message)?)
     })
 }
@@ -126,7 +126,7 @@ pub extern "C" fn hoyllaqe_take_notice(
 ) -> u32
     ensures { leaves result server.new sent.new outcome.new ≡ take_notice_left config.now number reading server.old about says sent.old }
 {
-    answered(config, number, reading, server, sent, outcome, |d| {
+    replied(config, number, reading, server, sent, outcome, |d| {
         device::device_noticed(d, about, says)
     })
 }
@@ -144,7 +144,7 @@ pub extern "C" fn hoyllaqe_come_back(
 ) -> u32
     ensures { leaves result server.new sent.new outcome.new ≡ come_back_left config.now number reading server.old sent.old }
 {
-    answered(config, number, reading, server, sent, outcome, |d| {
+    replied(config, number, reading, server, sent, outcome, |d| {
         device::device_returned(d)
     })
 }
@@ -162,7 +162,7 @@ pub extern "C" fn hoyllaqe_clean_up(
 ) -> u32
     ensures { leaves result server.new sent.new outcome.new ≡ clean_up_left config.now number reading server.old sent.old }
 {
-    answered(config, number, reading, server, sent, outcome, |d| {
+    replied(config, number, reading, server, sent, outcome, |d| {
         device::device_cleaned(d)
     })
 }
@@ -181,7 +181,7 @@ pub extern "C" fn hoyllaqe_receive_reply(
 ) -> u32
     ensures { leaves result client.new sent.new outcome.new ≡ receive_reply_left config.now number reading client.old message.now sent.old }
 {
-    answered(config, number, reading, client, sent, outcome, |d| {
+    replied(config, number, reading, client, sent, outcome, |d| {
         device::device_hears(d, message_of(message)?)
     })
 }
@@ -200,7 +200,7 @@ pub extern "C" fn hoyllaqe_discover(
 ) -> u32
     ensures { leaves result client.new sent.new outcome.new ≡ discover_left config.now number reading client.old interaction sent.old }
 {
-    answered(config, number, reading, client, sent, outcome, |d| {
+    replied(config, number, reading, client, sent, outcome, |d| {
         device::device_discovers(d, interaction)
     })
 }
@@ -219,7 +219,7 @@ pub extern "C" fn hoyllaqe_request(
 ) -> u32
     ensures { leaves result client.new sent.new outcome.new ≡ request_left config.now number reading client.old wanted sent.old }
 {
-    answered(config, number, reading, client, sent, outcome, |d| {
+    replied(config, number, reading, client, sent, outcome, |d| {
         device::device_requests(d, wanted)
     })
 }
@@ -239,7 +239,7 @@ pub extern "C" fn hoyllaqe_renew(
 ) -> u32
     ensures { leaves result client.new sent.new outcome.new ≡ renew_left config.now number reading client.old wanted interaction sent.old }
 {
-    answered(config, number, reading, client, sent, outcome, |d| {
+    replied(config, number, reading, client, sent, outcome, |d| {
         device::device_renews(d, wanted, interaction)
     })
 }
@@ -257,7 +257,7 @@ pub extern "C" fn hoyllaqe_pass_time(
 ) -> u32
     ensures { leaves result client.new sent.new outcome.new ≡ pass_time_left config.now number reading client.old sent.old }
 {
-    answered(config, number, reading, client, sent, outcome, |d| {
+    replied(config, number, reading, client, sent, outcome, |d| {
         device::device_lapses(d)
     })
 }

@@ -3,7 +3,7 @@
 // edges, and the buffer after it.
 #![tactic(auto)]
 
-use arith::number_of;
+use arith::refusal_of;
 use input::{EXAMPLE, EXAMPLE_CONFIG, read_full};
 use script::FIRST_RECORD;
 use std::fs::File;
@@ -18,7 +18,7 @@ const TWO_WRONG: [u32; 8] = [1, 0, 0, 0, 99, 0, 0, 0];
 fn judge(to: &mut impl Write, name: &str, mut file: File) -> io::Result<()> {
     let mut bytes = [0u8; 65537];
     let k = read_full(&mut file, &mut bytes)?;
-    writeln!(to, "{name} {}", number_of(&script::verdict(&bytes[..k])))
+    writeln!(to, "{name} {}", refusal_of(&script::verdict(&bytes[..k])))
 }
 
 // Bytes in hexadecimal, on one line.
@@ -44,7 +44,7 @@ fn print_steps(to: &mut impl Write, s: &[u8]) -> io::Result<()> {
 
 // What the writer answers: a refusal's number and length 0, or 0 and how long the script is.
 fn print_written(to: &mut impl Write, w: Result<usize, Refusal>) -> io::Result<()> {
-    writeln!(to, "written {} {}", number_of(&w), w.unwrap_or(0))
+    writeln!(to, "written {} {}", refusal_of(&w), w.unwrap_or(0))
 }
 
 // Writes into the buffer and prints the answer and the bytes after it.
@@ -57,7 +57,7 @@ fn try_writer(to: &mut impl Write, c: Config, rows: &[u32], out: &mut [u8]) -> i
 fn show_example(to: &mut impl Write) -> io::Result<()> {
     let mut out = [0u8; 189];
     try_writer(to, EXAMPLE_CONFIG, EXAMPLE.as_flattened(), &mut out)?;
-    writeln!(to, " {}", number_of(&script::verdict(&out)))?;
+    writeln!(to, " {}", refusal_of(&script::verdict(&out)))?;
     print_steps(to, &out)
 }
 

@@ -35,11 +35,11 @@ fn may_offer(c: InRange, r: u32, leads: bool, reserved: Option<Reservation>, v: 
 pub fn lowest_offerable(
     c: InRange,
     r: u32,
-    leads: [bool; 32],
-    reserved: [Option<Reservation>; 32],
-    records: [u32; 32],
+    leads: &[bool; 32],
+    reserved: &[Option<Reservation>; 32],
+    records: &[u32; 32],
 ) -> u32
-    ensures { result ≡ lowest_offerable c r leads reserved records }
+    ensures { result ≡ lowest_offerable c r leads.now reserved.now records.now }
 {
     (0..c.config.addresses)
         .find(|a| {
@@ -120,29 +120,27 @@ fn freed_if_of(q: u32, x: Option<Reservation>) -> Option<Reservation>
     x.filter(|w| w.interaction != q)
 }
 
-// Of the reservations of the first n addresses each is what `keep` leaves of it.
+// Of the reservations of the first n addresses each becomes what `keep` leaves of it.
 pub fn reservations_by<F: Fn(Option<Reservation>) -> Option<Reservation>>(
     keep: F,
     n: u32,
-    rs: [Option<Reservation>; 32],
-) -> [Option<Reservation>; 32]
+    rs: &mut [Option<Reservation>; 32],
+)
     requires few { n ≤ 32 }
     requires callable { F.IsAlwaysCallable keep }
-    ensures { (g : Option Reservation → Option Reservation) → ((x y : Option Reservation) → F.post keep x y → y ≡ g x) → result ≡ reservations_by g n rs }
+    ensures { (g : Option Reservation → Option Reservation) → ((x y : Option Reservation) → F.post keep x y → y ≡ g x) → rs.new ≡ reservations_by g n rs.old }
 {
-    let mut kept = rs;
-    for x in kept[..n as usize].iter_mut() {
+    for x in rs[..n as usize].iter_mut() {
         *x = keep(*x);
     }
-    kept
 }
 
 // Of the reservations of the first n addresses those of q are dropped.
-pub fn drop_reservations(n: u32, q: u32, rs: [Option<Reservation>; 32]) -> [Option<Reservation>; 32]
+pub fn drop_reservations(n: u32, q: u32, rs: &mut [Option<Reservation>; 32])
     requires { n ≤ 32 }
-    ensures { result ≡ reservations_by (freed_if_of q) n rs }
+    ensures { rs.new ≡ reservations_by (freed_if_of q) n rs.old }
 {
-    reservations_by(|x| freed_if_of(q, x), n, rs)
+    reservations_by(|x| freed_if_of(q, x), n, rs);
 }
 
 // A request for the address until t, when the reservations of the interaction are dropped.

@@ -23,6 +23,7 @@ use Rattle.wire.proofs.Over.{over_length}
 use Rattle.wire.specs.declared.Page.{Page}
 use Rattle.wire.specs.Pages.{put, HasRoom}
 use Rattle.wire.proofs.Pages.{room_first, room_then, put_then}
+use Rattle.script.specs.Layout.{first_record}
 use Rattle.script.specs.Reading.{Header, longest, is_script, no_config, config_read, header_in}
 use Rattle.report.specs.Lines.{record_line, facade_line}
 use Rattle.report.proofs.Laws.{record_line_short, facade_line_short}
@@ -43,7 +44,7 @@ accepted_first s c e q = rw (← e, q)
 
 -- the run begins with the fresh facade of the configuration, and has ended where it is refused
 pub begins : (s : List ℕ) (c : Config) (h : Result Config Refusal) → c ≡ (header_in s).config → refusal_of h ≡ (header_in s).refusal
-    → before (fresh c) 29 1 (is_err h) ≡ beginning s
+    → before (fresh c) first_record 1 (is_err h) ≡ beginning s
 unfolding beginning
 begins s c (Ok x) q e = rw (q, ← e)
 begins s c (Err n) q e = rw (q, ← e, ne_eqb (refusal_number n) 0 (is_some_refusal n))
@@ -55,7 +56,7 @@ module _ (s : List ℕ) (h : Header) (e : h ≡ header_in s) where
   unfolding header_in
   accepted_is_short t =
       cond_case (λ (x : Header). x.refusal ≡ 0 → length s ≤ longest) (is_script s) _ _
-      (λ b z. within_high 29 longest (length s) (and_l _ _ b))
+      (λ b z. within_high first_record longest (length s) (and_l _ _ b))
       (λ b z. absurd (omega arith))
       (rw e at t)
 
@@ -114,7 +115,7 @@ no_header : (s : List ℕ) → longest < length s → header_in s ≡ record { r
 unfolding header_in
 no_header s h =
     cond_case (λ (x : Header). x ≡ record { refusal = 1; config = no_config }) (is_script s) _ _
-    (λ t. absurd (omega (arith, h, within_high 29 longest (length s) (and_l _ _ t))))
+    (λ t. absurd (omega (arith, h, within_high first_record longest (length s) (and_l _ _ t))))
     (λ _. refl)
 
 -- and has one output

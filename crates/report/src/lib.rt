@@ -72,7 +72,7 @@ pub fn put_record_line(page: &mut Page, k: u32, refusal: u32, outcome: u32, time
     put_numbers(page, &[refusal, outcome, time, waiting]);
 }
 
-// That line, by the result of the record's step. In two arms, so that the 0 of each is known: with `number_of` and `map_or` it is
+// That line, by the result of the record's step. In two arms, so that the 0 of each is known: with `refusal_of` and `map_or` it is
 // not.
 pub fn put_result_line(
     page: &mut Page,

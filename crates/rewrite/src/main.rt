@@ -3,7 +3,7 @@
 // up to the first that is refused with 3.
 #![tactic(auto)]
 
-use arith::number_of;
+use arith::refusal_of;
 use input::read_full;
 use script::FIRST_RECORD;
 use std::io;
@@ -34,7 +34,7 @@ fn print_again(
 ) -> io::Result<()> {
     let x = writer::write(c, rows.as_flattened(), out);
     let length = x.unwrap_or(0);
-    writeln!(to, "{} {length}", number_of(&x))?;
+    writeln!(to, "{} {length}", refusal_of(&x))?;
     to.write_all(&out[..length])
 }
 
@@ -44,7 +44,7 @@ fn main(rt: HostRuntime) -> io::Result<()> {
     let n = read_full(&mut rt.stdin(), &mut script)?;
     let s = &script[..n];
     let mut stdout = rt.stdout();
-    writeln!(stdout, "{}", number_of(&script::verdict(s)))?;
+    writeln!(stdout, "{}", refusal_of(&script::verdict(s)))?;
     let c = script::config_in(s).unwrap_or_default();
     let mut rows = [[0u32; 4]; 32768];
     let mut out = [0u8; 65536];

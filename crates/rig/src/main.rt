@@ -31,7 +31,7 @@ fn print_run<W: Write>(to: &mut W, s: &[u8]) -> io::Result<()>
 }
 
 // Writes the output of the script that a reader has. What that is and what a writer holds is known of those over memory.
-fn run<R: Read, W: Write>(from: &mut R, to: &mut W) -> io::Result<()>
+fn print_output<R: Read, W: Write>(from: &mut R, to: &mut W) -> io::Result<()>
     ensures { OnOk result (IfSome (R.remaining from.old) (λ s. Appends (W.contents to.old) (W.contents to.new) (output s))) }
 {
     // one byte more than the longest script, so that a longer one is seen to be longer
@@ -41,5 +41,5 @@ fn run<R: Read, W: Write>(from: &mut R, to: &mut W) -> io::Result<()>
 }
 
 fn main(rt: HostRuntime) -> io::Result<()> {
-    run(&mut rt.stdin(), &mut rt.stdout())
+    print_output(&mut rt.stdin(), &mut rt.stdout())
 }

@@ -27,7 +27,7 @@ use Rattle.rules.specs.Steps.{pass, discover, request, renew, state_allows, exis
 use Rattle.rules.proofs.Laws.{Or, inl, inr, and_r, cond_case, set_any, length_filled, filled_at}
 use Rattle.rules.proofs.Cable.{Waits, Posted, ToServer, waits_sent, posted_nothing, posted_each}
 use Rattle.rules.proofs.Kept.{Configured, configured, Ranged, Kept}
-use Rattle.rules.proofs.Leases.{world, Says, Promises, Claim, holds, sent, BodyOk, Leased, passed_by, plain}
+use Rattle.rules.proofs.Leases.{basis, Says, Promises, Claim, holds, sent, BodyOk, Leased, passed_by, plain}
 
 no_holder : {X : Type 0} (a e q : ℕ) → Idle ≡ Holding a e q → X
 no_holder a e q p = let z : ◌≡◌ {A = ℕ} 0 1 = cc in absurd (omega arith)
@@ -37,14 +37,14 @@ unheld : (x : State) (a e q : ℕ) → T (not (is_holding x)) → x ≡ Holding 
 unfolding is_holding
 unheld x a e q t p = rw p at t
 
-module _ (f : Facade) (g : Ranged f) (v : Leased (world f)) where
+module _ (f : Facade) (g : Ranged f) (v : Leased (basis f)) where
   ok : Configured f.config
   ok = configured f.config g.config
 
   -- Client i comes to state x; what it holds then was promised to it, and is above its clock.
 
   abbrev Becomes : ℕ → State → Type 0
-  Becomes i x = (a e q : ℕ) → x ≡ Holding a e q → Claim (world f) i a e × (clock f (client_party f.config i) < e)
+  Becomes i x = (a e q : ℕ) → x ≡ Holding a e q → Claim (basis f) i a e × (clock f (client_party f.config i) < e)
 
   becomes_unheld : (i : ℕ) (x : State) → T (not (is_holding x)) → Becomes i x
   becomes_unheld i x t a e q p = absurd (unheld x a e q t p)
@@ -53,22 +53,22 @@ module _ (f : Facade) (g : Ranged f) (v : Leased (world f)) where
   stays i hi a e q p = (holds q hi p, v.above i a e q hi p)
 
   module _ (i : ℕ) (x : State) (out : Message → Type 0) (new : Becomes i x)
-      (mok : (m : Message) → out m → BodyOk (world f) m.sender m.body)
-      (sub : (m : Message) → out m → (i' a e : ℕ) → Promises f.config m i' a e → Claim (world f) i' a e) where
-    old_claim : (i' a e : ℕ) → Claim (passed_by (world f) f.time f.offsets (set f.clients i (in_state x)) out) i' a e → Claim (world f) i' a e
+      (mok : (m : Message) → out m → BodyOk (basis f) m.sender m.body)
+      (sub : (m : Message) → out m → (i' a e : ℕ) → Promises f.config m i' a e → Claim (basis f) i' a e) where
+    old_claim : (i' a e : ℕ) → Claim (passed_by (basis f) f.time f.offsets (set f.clients i (in_state x)) out) i' a e → Claim (basis f) i' a e
     old_claim i' a e (holds q h p) =
-        set_any (λ y. y.state ≡ Holding a e q → Claim (world f) i' a e) f.clients i (in_state x) no_client i' (λ is y. rw is (new a e q y).0) (λ y. holds q h y) p
+        set_any (λ y. y.state ≡ Holding a e q → Claim (basis f) i' a e) f.clients i (in_state x) no_client i' (λ is y. rw is (new a e q y).0) (λ y. holds q h y) p
     old_claim i' a e (sent m p c) = sub m p i' a e c
 
-    client_leased : Leased (passed_by (world f) f.time f.offsets (set f.clients i (in_state x)) out)
-    client_leased = plain (world f) v f.time f.offsets (set f.clients i (in_state x)) out (le_refl _) old_claim mok
+    client_leased : Leased (passed_by (basis f) f.time f.offsets (set f.clients i (in_state x)) out)
+    client_leased = plain (basis f) v f.time f.offsets (set f.clients i (in_state x)) out (le_refl _) old_claim mok
         (λ i' a e q h. set_any (λ y. y.state ≡ Holding a e q → clock f (client_party f.config i') < e) f.clients i (in_state x) no_client i'
         (λ is y. rw is (new a e q y).1) (v.above i' a e q h))
 
   -- Steps of a client: a broadcast of body b, which promises nothing that was not promised.
 
-  module _ (i : ℕ) (x : State) (n q : ℕ) (b : Body) (new : Becomes i x) (bok : (from : ℕ) → BodyOk (world f) from b)
-      (says : (to i' a e : ℕ) → Says f.config (client_party f.config i) to b i' a e → Claim (world f) i' a e)
+  module _ (i : ℕ) (x : State) (n q : ℕ) (b : Body) (new : Becomes i x) (bok : (from : ℕ) → BodyOk (basis f) from b)
+      (says : (to i' a e : ℕ) → Says f.config (client_party f.config i) to b i' a e → Claim (basis f) i' a e)
       (len : length f.messages ≡ 128) where
     after : Facade
     after = (client_acts (with_next f n) i (reply x Done (broadcast f.config i q b))).facade
@@ -82,35 +82,35 @@ module _ (f : Facade) (g : Ranged f) (v : Leased (world f)) where
           go (inl z) = inl z
           go (inr z) = inr (posted_each _ f.config.servers ok.servers_high m z)
 
-      body_ok : (m : Message) → Or (Waits f m) (ToServer (λ j. message (client_party f.config i) j q b) f.config.servers m) → BodyOk (world f) m.sender m.body
+      body_ok : (m : Message) → Or (Waits f m) (ToServer (λ j. message (client_party f.config i) j q b) f.config.servers m) → BodyOk (basis f) m.sender m.body
       body_ok m (inl y) = v.acks m y
       body_ok m (inr y) = rw (← y.is) (bok _)
 
       old : (m : Message) (i' a e : ℕ) → Promises f.config m i' a e
-          → Or (Waits f m) (ToServer (λ j. message (client_party f.config i) j q b) f.config.servers m) → Claim (world f) i' a e
+          → Or (Waits f m) (ToServer (λ j. message (client_party f.config i) j q b) f.config.servers m) → Claim (basis f) i' a e
       old m i' a e c (inl y) = sent m y c
       old m i' a e c (inr y) = says y.to i' a e (rw (← y.is) at c)
 
-      broadcast_leased : Leased (world after)
+      broadcast_leased : Leased (basis after)
       unfolding after
       broadcast_leased = client_leased i x (Waits after) new (λ m y. body_ok m (from_where m y)) (λ m y i' a e c. old m i' a e c (from_where m y))
 
   -- a client that does not hold discovers
   discover_go : (i : ℕ) → length f.messages ≡ 128 → (b : Bool) → T (not b)
       → (client_acts (with_next f (f.next + 1)) i (cond b (reply (state_at f i) Unmet nothing) (reply (Asking f.next) Done (broadcast f.config i f.next Discover)))).facade.waiting ≤ 128
-      → Leased (world (client_acts (with_next f (f.next + 1)) i (cond b (reply (state_at f i) Unmet nothing) (reply (Asking f.next) Done (broadcast f.config i f.next Discover)))).facade)
+      → Leased (basis (client_acts (with_next f (f.next + 1)) i (cond b (reply (state_at f i) Unmet nothing) (reply (Asking f.next) Done (broadcast f.config i f.next Discover)))).facade)
   unfolding after is_holding
   discover_go i len true n room = absurd n
   discover_go i len false n room =
       broadcast_leased i (Asking f.next) (f.next + 1) f.next Discover (becomes_unheld i (Asking f.next) tt) (λ from. tt) (λ to i' a e c. absurd c) len room
 
-  pub leased_discover : (i : ℕ) → length f.messages ≡ 128 → Kept f (discover i) → Leased (world (effect f (discover i)).facade)
+  pub leased_discover : (i : ℕ) → length f.messages ≡ 128 → Kept f (discover i) → Leased (basis (effect f (discover i)).facade)
   unfolding effect deed_of takes_out taken_out enacted client_after next_after discovers state_allows
   leased_discover i len w = discover_go i len (is_holding (state_at f i)) w.state w.room
 
   -- only an offered client requests
   request_go : (i t : ℕ) → length f.messages ≡ 128 → (x : State) → T (is_offered x)
-      → (client_acts f i (requests f.config i x t)).facade.waiting ≤ 128 → Leased (world (client_acts f i (requests f.config i x t)).facade)
+      → (client_acts f i (requests f.config i x t)).facade.waiting ≤ 128 → Leased (basis (client_acts f i (requests f.config i x t)).facade)
   unfolding requests is_offered is_holding after
   request_go i t len Idle o room = absurd o
   request_go i t len (Asking q) o room = absurd o
@@ -119,14 +119,14 @@ module _ (f : Facade) (g : Ranged f) (v : Leased (world f)) where
   request_go i t len (Waiting q a) o room = absurd o
   request_go i t len (Holding a e q) o room = absurd o
 
-  pub leased_request : (i t : ℕ) → length f.messages ≡ 128 → Kept f (request i t) → Leased (world (effect f (request i t)).facade)
+  pub leased_request : (i t : ℕ) → length f.messages ≡ 128 → Kept f (request i t) → Leased (basis (effect f (request i t)).facade)
   unfolding effect deed_of takes_out taken_out enacted client_after next_after state_allows
   leased_request i t len w = request_go i t len (state_at f i) w.state w.room
 
   -- only a holding client renews, and its messages quote the end that it holds
   renew_go : (i t : ℕ) → i < f.config.clients → length f.messages ≡ 128 → (x : State) → state_at f i ≡ x → T (is_holding x)
       → (client_acts (with_next f (f.next + 1)) i (renews f.config i x t f.next)).facade.waiting ≤ 128
-      → Leased (world (client_acts (with_next f (f.next + 1)) i (renews f.config i x t f.next)).facade)
+      → Leased (basis (client_acts (with_next f (f.next + 1)) i (renews f.config i x t f.next)).facade)
   unfolding renews is_holding after
   renew_go i t hi len Idle is h room = absurd h
   renew_go i t hi len (Asking q) is h room = absurd h
@@ -138,10 +138,10 @@ module _ (f : Facade) (g : Ranged f) (v : Leased (world f)) where
       new : Becomes i (Holding a e f.next)
       new a' e' q' y = let p : a ≡ a' = cc in let p' : e ≡ e' = cc in stays i hi a' e' q (rw (← p, ← p') is)
 
-      says : (to i' a' e' : ℕ) → (client_party f.config i ≡ client_party f.config i') × (a ≡ a') × (e ≡ e') → Claim (world f) i' a' e'
+      says : (to i' a' e' : ℕ) → (client_party f.config i ≡ client_party f.config i') × (a ≡ a') × (e ≡ e') → Claim (basis f) i' a' e'
       says to i' a' e' c = let j : i ≡ i' = omega (arith, c.0) in rw (← j, ← c.1, ← c.2) (holds q hi is)
 
-  pub leased_renew : (i t : ℕ) → length f.messages ≡ 128 → Kept f (renew i t) → Leased (world (effect f (renew i t)).facade)
+  pub leased_renew : (i t : ℕ) → length f.messages ≡ 128 → Kept f (renew i t) → Leased (basis (effect f (renew i t)).facade)
   unfolding effect deed_of takes_out taken_out enacted client_after next_after state_allows exists
   leased_renew i t len w = renew_go i t (ltb→lt i _ w.names) len (state_at f i) refl w.state w.room
 
@@ -180,13 +180,13 @@ module _ (f : Facade) (g : Ranged f) (v : Leased (world f)) where
     old_promise : (out : Message → Type 0) (xs : List Client)
         → ((i a e q : ℕ) → i < f.config.clients → (get_or xs i no_client).state ≡ Holding a e q → state_at f i ≡ Holding a e q)
         → ((m : Message) → out m → Waits f m)
-        → (i a e : ℕ) → Claim (passed_by (world f) (f.time + d) (set f.offsets p (offset_at f p +ℤ z)) xs out) i a e → Claim (world f) i a e
+        → (i a e : ℕ) → Claim (passed_by (basis f) (f.time + d) (set f.offsets p (offset_at f p +ℤ z)) xs out) i a e → Claim (basis f) i a e
     old_promise out xs was sub i a e (holds q h y) = holds q h (was i a e q h y)
     old_promise out xs was sub i a e (sent m y c) = sent m (sub m y) c
 
-    pub leased_pass : Leased (world (effect f (pass d p z)).facade)
+    pub leased_pass : Leased (basis (effect f (pass d p z)).facade)
     unfolding effect deed_of takes_out taken_out enacted lapse lapsed_at holds_ended later state_left
-    leased_pass = plain (world f) v (f.time + d) (set f.offsets p (offset_at f p +ℤ z)) (filled state_left f.config.clients f.clients) (Waits f) (omega arith)
+    leased_pass = plain (basis f) v (f.time + d) (set f.offsets p (offset_at f p +ℤ z)) (filled state_left f.config.clients f.clients) (Waits f) (omega arith)
         (old_promise (Waits f) (filled state_left f.config.clients f.clients) (λ i a e q h y. (left i a e q h y).0) (λ m y. y))
         v.acks
         (λ i a e q h y. (left i a e q h y).1)
@@ -195,7 +195,7 @@ module _ (f : Facade) (g : Ranged f) (v : Leased (world f)) where
 
   module _ (i : ℕ) (hi : i < f.config.clients) (out : Message → Type 0) where
     abbrev pub Keeps : Reaction Client → Type 0
-    Keeps x = ((m : Message) → out m → Or (Waits f m) (Posted x.outbox m)) → Leased (passed_by (world f) f.time f.offsets (set f.clients i x.after) out)
+    Keeps x = ((m : Message) → out m → Or (Waits f m) (Posted x.outbox m)) → Leased (passed_by (basis f) f.time f.offsets (set f.clients i x.after) out)
 
     waited : (m : Message) → Or (Waits f m) (Posted nothing m) → Waits f m
     waited m (inl y) = y
@@ -212,7 +212,7 @@ module _ (f : Facade) (g : Ranged f) (v : Leased (world f)) where
     keeps_offer q a =
         cond_case Keeps (asks_with (state_at f i) q) (reply (Offered q a) Done nothing) _ (λ _. comes_to (Offered q a) Done (becomes_unheld i (Offered q a) tt)) (λ _. unmoved)
 
-    keeps_ack : (q a e : ℕ) → Claim (world f) i a e → Keeps (on_ack (clock f (client_party f.config i)) (state_at f i) q a e)
+    keeps_ack : (q a e : ℕ) → Claim (basis f) i a e → Keeps (on_ack (clock f (client_party f.config i)) (state_at f i) q a e)
     unfolding on_ack
     keeps_ack q a e c =
         cond_case Keeps (expects (state_at f i) q a and ltb (clock f (client_party f.config i)) e) (reply (Holding a (new_end (state_at f i) e) q) Done nothing) _
@@ -220,7 +220,7 @@ module _ (f : Facade) (g : Ranged f) (v : Leased (world f)) where
         (rw (← p, ← p') c, rw (← p') (ltb→lt _ _ (and_r (expects (state_at f i) q a) (ltb (clock f (client_party f.config i)) e) t)))))
         (λ _. unmoved)
 
-    keeps_body : (from to q : ℕ) (b : Body) → to ≡ client_party f.config i → ((i' a e : ℕ) → Says f.config from to b i' a e → Claim (world f) i' a e)
+    keeps_body : (from to q : ℕ) (b : Body) → to ≡ client_party f.config i → ((i' a e : ℕ) → Says f.config from to b i' a e → Claim (basis f) i' a e)
         → Keeps (client_handles (clock f (client_party f.config i)) (state_at f i) q b)
     unfolding client_handles
     keeps_body from to q Empty is cl = unmoved

@@ -32,10 +32,10 @@ use Rattle.rules.proofs.Laws.{Or, inl, inr, and_l, and_r, cond_case, all_at, set
 use Rattle.rules.proofs.Cable.{Waits, Posted, ToServer, posted_nothing, posted_one, posted_others}
 use Rattle.rules.proofs.Kept.{address_low, Configured, configured, Ranged}
 use Rattle.rules.proofs.Leadership.{OneLeader, clock_low, clock_high}
-use Rattle.rules.proofs.Leases.{World, world, srv, Cov, Says, Promises, Claim, holds, sent, CountOk, OpenOk, BodyOk, Leased, Grows, cov_grows, count_grows, body_grows, served_by, Raised, served_grows, served, quiet, still}
+use Rattle.rules.proofs.Leases.{Basis, basis, srv, Cov, Says, Promises, Claim, holds, sent, CountOk, OpenOk, BodyOk, Leased, Grows, cov_grows, count_grows, body_grows, served_by, Raised, served_grows, served, quiet, still}
 
 -- server k of f answers, and the messages out afterwards are those that waited and those that it posts
-module _ (f : Facade) (g : Ranged f) (four : length f.servers ≡ 4) (one : OneLeader f) (v : Leased (world f))
+module _ (f : Facade) (g : Ranged f) (four : length f.servers ≡ 4) (one : OneLeader f) (v : Leased (basis f))
     (k : ℕ) (hk : k < f.config.servers) (out : Message → Type 0) where
   ok : Configured f.config
   ok = configured f.config g.config
@@ -51,7 +51,7 @@ module _ (f : Facade) (g : Ranged f) (four : length f.servers ≡ 4) (one : OneL
 
   -- what is to be shown of an answer
   abbrev pub Keeps : Reaction Server → Type 0
-  Keeps x = ((m : Message) → out m → Or (Waits f m) (Posted x.outbox m)) → Leased (served_by (world f) k x.after out)
+  Keeps x = ((m : Message) → out m → Or (Waits f m) (Posted x.outbox m)) → Leased (served_by (basis f) k x.after out)
 
   -- Answers that lend nothing: lent ends, records and open writes as they were, and no message that matters.
 
@@ -59,11 +59,11 @@ module _ (f : Facade) (g : Ranged f) (four : length f.servers ≡ 4) (one : OneL
   by o m (inl p) old new = old p
   by o m (inr p) old new = new p
 
-  same : (rs : List (Option Reservation)) → Raised (world f) k (with_reserved (server_at f k) rs)
+  same : (rs : List (Option Reservation)) → Raised (basis f) k (with_reserved (server_at f k) rs)
   same rs = record { place = place; row = v.rows k hk; up = λ a. le_refl _; lead = λ a e ha al le c. c.led k hk al le }
 
   pub silent : (rs : List (Option Reservation)) (n : Outcome) → Keeps (answer (with_reserved (server_at f k) rs) n nothing)
-  silent rs n sub = still (world f) v k (with_reserved (server_at f k) rs) out (same rs) hk (λ a. refl) (λ a. refl)
+  silent rs n sub = still (basis f) v k (with_reserved (server_at f k) rs) out (same rs) hk (λ a. refl) (λ a. refl)
       (λ m p. by nothing m (sub m p) (v.acks m) (λ x. posted_nothing m x))
       (λ m p i a e c. by nothing m (sub m p) (λ x. sent m x c) (λ x. posted_nothing m x))
 
@@ -85,7 +85,7 @@ module _ (f : Facade) (g : Ranged f) (four : length f.servers ≡ 4) (one : OneL
     unfolding lender
     lender_up a' = set_any (λ x. potlease_at (server_at f k) a' ≤ x) (server_at f k).potlease a b.potlease 0 a' (λ q. rw q more) (le_refl _)
 
-    lender_raised : Raised (world f) k lender
+    lender_raised : Raised (basis f) k lender
     unfolding lender
     lender_raised = record {
       place = place;
@@ -94,34 +94,34 @@ module _ (f : Facade) (g : Ranged f) (four : length f.servers ≡ 4) (one : OneL
       lead = λ a' e ha' al le c. omega (arith, c.led k hk al (lender_led a' le), lender_up a');
     }
 
-    lender_grows : Grows (world f) (served_by (world f) k lender out)
-    lender_grows = served_grows (world f) v k lender out lender_raised
+    lender_grows : Grows (basis f) (served_by (basis f) k lender out)
+    lender_grows = served_grows (basis f) v k lender out lender_raised
 
     lender_record : potlease_at (get_or (set f.servers k lender) k no_server) a ≡ b.potlease
     unfolding lender
     lender_record =
         rw (get_or-set_same f.servers k lender no_server place) (get_or-set_same (server_at f k).potlease a b.potlease 0 (omega (arith, v.rows k hk, ok.addresses_high)))
 
-    lender_lent : Cov (served_by (world f) k lender out) a b.lent → (a' : ℕ) → a' < f.config.addresses → Cov (served_by (world f) k lender out) a' (lent_at lender a')
+    lender_lent : Cov (served_by (basis f) k lender out) a b.lent → (a' : ℕ) → a' < f.config.addresses → Cov (served_by (basis f) k lender out) a' (lent_at lender a')
     unfolding lender
     lender_lent c a' ha' =
-        set_any (λ x. Cov (served_by (world f) k lender out) a' x) (server_at f k).lent a b.lent 0 a' (λ q. rw q c)
-        (cov_grows (world f) _ lender_grows a' _ ha' (v.lents k a' hk ha'))
+        set_any (λ x. Cov (served_by (basis f) k lender out) a' x) (server_at f k).lent a b.lent 0 a' (λ q. rw q c)
+        (cov_grows (basis f) _ lender_grows a' _ ha' (v.lents k a' hk ha'))
 
-    lender_open : OpenOk (served_by (world f) k lender out) a b.write → (a' : ℕ) → a' < f.config.addresses → OpenOk (served_by (world f) k lender out) a' (write_at lender a')
+    lender_open : OpenOk (served_by (basis f) k lender out) a b.write → (a' : ℕ) → a' < f.config.addresses → OpenOk (served_by (basis f) k lender out) a' (write_at lender a')
     unfolding lender
     lender_open c a' ha' =
-        set_any (λ x. OpenOk (served_by (world f) k lender out) a' x) (server_at f k).writes a b.write no_write a' (λ q. rw q c)
-        (count_grows (world f) _ lender_grows a' _ (write_at (server_at f k) a').pending (v.opens k a' hk ha'))
+        set_any (λ x. OpenOk (served_by (basis f) k lender out) a' x) (server_at f k).writes a b.write no_write a' (λ q. rw q c)
+        (count_grows (basis f) _ lender_grows a' _ (write_at (server_at f k) a').pending (v.opens k a' hk ha'))
 
     -- nothing is promised: the lent end is covered, the open write counts right, and what is sent promises nothing
-    unpromised : (n : Outcome) (o : Outbox) → Cov (world f) a b.lent → OpenOk (world f) a b.write
-        → ((m : Message) → Posted o m → BodyOk (served_by (world f) k lender out) m.sender m.body × ((i a e : ℕ) → Promises f.config m i a e → ⊥))
+    unpromised : (n : Outcome) (o : Outbox) → Cov (basis f) a b.lent → OpenOk (basis f) a b.write
+        → ((m : Message) → Posted o m → BodyOk (served_by (basis f) k lender out) m.sender m.body × ((i a e : ℕ) → Promises f.config m i a e → ⊥))
         → Keeps (answer lender n o)
-    unpromised n o cov opn new sub = quiet (world f) v k lender out lender_raised
-        (lender_lent (cov_grows (world f) _ lender_grows a b.lent ha cov))
-        (lender_open (count_grows (world f) _ lender_grows a b.write.acked b.write.pending opn))
-        (λ m x. by o m (sub m x) (λ y. body_grows (world f) _ lender_grows m.sender m.body (v.acks m y)) (λ y. (new m y).0))
+    unpromised n o cov opn new sub = quiet (basis f) v k lender out lender_raised
+        (lender_lent (cov_grows (basis f) _ lender_grows a b.lent ha cov))
+        (lender_open (count_grows (basis f) _ lender_grows a b.write.acked b.write.pending opn))
+        (λ m x. by o m (sub m x) (λ y. body_grows (basis f) _ lender_grows m.sender m.body (v.acks m y)) (λ y. (new m y).0))
         (λ m x i a' e c. by o m (sub m x) (λ y. sent m y c) (λ y. absurd ((new m y).1 i a' e c)))
 
   unchanged : (a : ℕ) → a < f.config.addresses → (rs : List (Option Reservation)) (n : Outcome)
@@ -143,7 +143,7 @@ module _ (f : Facade) (g : Ranged f) (four : length f.servers ≡ 4) (one : OneL
 
   module _ (al : T (server_at f k).alive) (rs : List (Option Reservation)) (p q a t l : ℕ) (ha : a < f.config.addresses) (lead : T (leads_at (server_at f k) a))
       (fits : (j : ℕ) → j < f.config.servers → l ≤ max (potlease_at (server_at f j) a) (f.time + f.config.skew + f.config.mclt))
-      (over : (i e : ℕ) → Claim (world f) i a e → p ≢ client_party f.config i → e + f.config.skew < f.time) where
+      (over : (i e : ℕ) → Claim (basis f) i a e → p ≢ client_party f.config i → e + f.config.skew < f.time) where
     new_record : ℕ
     new_record = max (potlease_at (server_at f k) a) (written_end t l)
 
@@ -164,10 +164,10 @@ module _ (f : Facade) (g : Ranged f) (four : length f.servers ≡ 4) (one : OneL
     grantor : Server
     grantor = lender a ha rs new_binding leads more
 
-    after : World
-    after = served_by (world f) k grantor out
+    after : Basis
+    after = served_by (basis f) k grantor out
 
-    grows : Grows (world f) after
+    grows : Grows (basis f) after
     unfolding after grantor
     grows = lender_grows a ha rs new_binding leads more
 
@@ -200,12 +200,12 @@ module _ (f : Facade) (g : Ranged f) (four : length f.servers ≡ 4) (one : OneL
 
       grant_body : (m : Message) → Or (Waits f m) (Granted m) → BodyOk after m.sender m.body
       unfolding Granted
-      grant_body m (inl x) = body_grows (world f) after grows m.sender m.body (v.acks m x)
+      grant_body m (inl x) = body_grows (basis f) after grows m.sender m.body (v.acks m x)
       grant_body m (inr (inl e)) = rw (← e) tt
       grant_body m (inr (inr x)) = rw (← x.is) tt
 
       NewOrOld : ℕ → ℕ → ℕ → Type 0
-      NewOrOld i a' e = Or (Claim (world f) i a' e) ((p ≡ client_party f.config i) × (a ≡ a') × (l ≡ e))
+      NewOrOld i a' e = Or (Claim (basis f) i a' e) ((p ≡ client_party f.config i) × (a ≡ a') × (l ≡ e))
 
       sent_claim : (m : Message) (i a' e : ℕ) → Promises f.config m i a' e → Or (Waits f m) (Granted m) → NewOrOld i a' e
       unfolding Granted NewOrOld
@@ -220,7 +220,7 @@ module _ (f : Facade) (g : Ranged f) (four : length f.servers ≡ 4) (one : OneL
 
       covered : (i a' e : ℕ) → a' < f.config.addresses → NewOrOld i a' e → Cov after a' e
       unfolding NewOrOld
-      covered i a' e ha' (inl c) = cov_grows (world f) after grows a' e ha' (v.claims i a' e ha' c)
+      covered i a' e ha' (inl c) = cov_grows (basis f) after grows a' e ha' (v.claims i a' e ha' c)
       covered i a' e ha' (inr x) = rw (← x.1, ← x.2) grant_cov
 
       apart : (i a' e i' e' : ℕ) → a' < f.config.addresses → NewOrOld i a' e → NewOrOld i' a' e' → i ≢ i' → min e e' + f.config.skew < f.time
@@ -232,7 +232,7 @@ module _ (f : Facade) (g : Ranged f) (four : length f.servers ≡ 4) (one : OneL
 
       granted_leased : Leased after
       unfolding after grantor new_binding
-      granted_leased = served (world f) v k grantor out (lender_raised a ha rs new_binding leads more)
+      granted_leased = served (basis f) v k grantor out (lender_raised a ha rs new_binding leads more)
           (lender_lent a ha rs new_binding leads more grant_cov)
           (lender_open a ha rs new_binding leads more grant_open)
           (λ m x. grant_body m (says m x))
@@ -255,7 +255,7 @@ module _ (f : Facade) (g : Ranged f) (four : length f.servers ≡ 4) (one : OneL
       (λ i e c _. omega (arith, high, (v.claims i a e ha c).led k hk al (and_l _ _ y))))
       (λ _. unchanged a ha rs Unmet)
 
-  pub keeps_renew : T (server_at f k).alive → (i q a e t : ℕ) → a < f.config.addresses → Claim (world f) i a e
+  pub keeps_renew : T (server_at f k).alive → (i q a e t : ℕ) → a < f.config.addresses → Claim (basis f) i a e
       → Keeps (at_address (server_at f k) a (on_renew f.config k (clock f k) (binding_at (server_at f k) a) (client_party f.config i) q a e t))
   unfolding on_renew
   keeps_renew al i q a e t ha claim =
@@ -279,7 +279,7 @@ module _ (f : Facade) (g : Ranged f) (four : length f.servers ≡ 4) (one : OneL
   -- Write ack: it counts a server whose record has the end; when all are in, every record has it.
 
   -- the open write that an ack answers counts only servers whose record has its end
-  counted : (q e a : ℕ) (acked : List Bool) (o : Option Pending) → T (matches_write q e o) → CountOk (world f) a acked o
+  counted : (q e a : ℕ) (acked : List Bool) (o : Option Pending) → T (matches_write q e o) → CountOk (basis f) a acked o
       → (j : ℕ) → j < f.config.servers → T (get_or acked j false) → e ≤ potlease_at (server_at f j) a
   unfolding matches_write
   counted q e a acked None t c j hj x = absurd t
@@ -297,14 +297,14 @@ module _ (f : Facade) (g : Ranged f) (four : length f.servers ≡ 4) (one : OneL
         (counted q e a (write_at (server_at f k) a).acked (write_at (server_at f k) a).pending t (v.opens k a hk ha) j hj)
 
     -- every record has it, so it is covered with the lent end
-    all_have : ((j : ℕ) → j < f.config.servers → e ≤ potlease_at (server_at f j) a) → Cov (world f) a (max (lent_at (server_at f k) a) e)
+    all_have : ((j : ℕ) → j < f.config.servers → e ≤ potlease_at (server_at f j) a) → Cov (basis f) a (max (lent_at (server_at f k) a) e)
     all_have every = record {
       led = λ j hj al le. omega (arith, (v.lents k a hk ha).led j hj al le, every j hj);
       every = λ j hj. omega (arith, (v.lents k a hk ha).every j hj, every j hj);
     }
 
     -- another lent end and open write for a, the record as it was
-    rewritten : (l : ℕ) (o : OpenWrite) → Cov (world f) a l → OpenOk (world f) a o
+    rewritten : (l : ℕ) (o : OpenWrite) → Cov (basis f) a l → OpenOk (basis f) a o
         → Keeps (at_address (server_at f k) a (answer (with_lease (binding_at (server_at f k) a) l (potlease_at (server_at f k) a) o) Done nothing))
     unfolding lender
     rewritten l o cov opn = unpromised a ha (server_at f k).reserved (with_lease (binding_at (server_at f k) a) l (potlease_at (server_at f k) a) o) refl (le_refl _) Done nothing cov opn
@@ -322,7 +322,7 @@ module _ (f : Facade) (g : Ranged f) (four : length f.servers ≡ 4) (one : OneL
   -- A message, by its body.
 
   module _ (al : T (server_at f k).alive) (from to q : ℕ) where
-    keeps_body : (b : Body) → T (body_in_range f.config from to b) → ((i a e : ℕ) → Says f.config from to b i a e → Claim (world f) i a e) → BodyOk (world f) from b
+    keeps_body : (b : Body) → T (body_in_range f.config from to b) → ((i a e : ℕ) → Says f.config from to b i a e → Claim (basis f) i a e) → BodyOk (basis f) from b
         → Keeps (server_handles f.config k (clock f k) (server_at f k) from q b)
     unfolding server_handles handled_at is_request address_for body_in_range is_client
     keeps_body Empty t cl ok = absurd t

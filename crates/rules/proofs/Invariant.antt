@@ -23,7 +23,7 @@ use Rattle.types.specs.declared.Deed.{Deed}
 use Rattle.rules.proofs.Kept.{handled, taken_if, deliver_is, of_fresh, Configured, configured, Ranged, ranged, Kept, kept}
 use Rattle.rules.proofs.Ranges.{in_range_kept, messages_kept, fresh_in_range}
 use Rattle.rules.proofs.Leadership.{round, Led, one_leader, clock_low, led_kept, led_fresh}
-use Rattle.rules.proofs.Leases.{world, Cov, Claim, holds, sent, OpenOk, Leased}
+use Rattle.rules.proofs.Leases.{basis, Cov, Claim, holds, sent, OpenOk, Leased}
 use Rattle.rules.proofs.Serving.{cov_zero}
 use Rattle.rules.proofs.Delivery.{leased_kept}
 
@@ -31,7 +31,7 @@ pub record Invariant (f : Facade) : Type 0 where
   pub range : T (in_range f)
   pub messages : length f.messages ≡ 128
   pub led : Led (rank f.config.servers) f
-  pub leased : Leased (world f)
+  pub leased : Leased (basis f)
 
 -- The configuration stays.
 
@@ -133,18 +133,18 @@ none_held {X} i a e q = rep_ind (λ x. x.state ≡ Holding a e q → X) 32 no_cl
     never : Idle ≡ Holding a e q → X
     never p = let z : ◌≡◌ {A = ℕ} 0 1 = cc in absurd (omega arith)
 
-no_claim : {X : Type 0} (c : Config) (i a e : ℕ) → Claim (world (fresh c)) i a e → X
+no_claim : {X : Type 0} (c : Config) (i a e : ℕ) → Claim (basis (fresh c)) i a e → X
 unfolding fresh
 no_claim c i a e (holds q h p) = none_held i a e q p
 no_claim c i a e (sent m p s) = absurd (omega (arith, p.below))
 
-leased_fresh : (c : Config) → Configured c → Leased (world (fresh c))
+leased_fresh : (c : Config) → Configured c → Leased (basis (fresh c))
 unfolding fresh
 leased_fresh c ok = record {
   rows = λ k h. of_fresh c ok (λ s. length s.potlease ≡ 32) k h refl;
   claims = λ i a e ha x. no_claim c i a e x;
-  lents = λ k a h ha. of_fresh c ok (λ s. Cov (world (fresh c)) a (lent_at s a)) k h (rep_ind (λ x. Cov (world (fresh c)) a x) 32 0 0 a (cov_zero _ a) (cov_zero _ a));
-  opens = λ k a h ha. of_fresh c ok (λ s. OpenOk (world (fresh c)) a (write_at s a)) k h (rep_ind (λ x. OpenOk (world (fresh c)) a x) 32 closed no_write a tt tt);
+  lents = λ k a h ha. of_fresh c ok (λ s. Cov (basis (fresh c)) a (lent_at s a)) k h (rep_ind (λ x. Cov (basis (fresh c)) a x) 32 0 0 a (cov_zero _ a) (cov_zero _ a));
+  opens = λ k a h ha. of_fresh c ok (λ s. OpenOk (basis (fresh c)) a (write_at s a)) k h (rep_ind (λ x. OpenOk (basis (fresh c)) a x) 32 closed no_write a tt tt);
   acks = λ m p. absurd (omega (arith, p.below));
   pair = λ i a e i' e' ha x y ne. no_claim c i a e x;
   above = λ i a e q h p. none_held i a e q p;

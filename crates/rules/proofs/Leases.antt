@@ -28,7 +28,7 @@ use Rattle.rules.proofs.Cable.{Waits}
 
 -- The parts of a facade that leases depend on; of the waiting messages only which they are.
 
-pub record World : Type 1 where
+pub record Basis : Type 1 where
   pub config : Config
   pub time : ℕ
   pub offsets : List ℤ
@@ -36,23 +36,23 @@ pub record World : Type 1 where
   pub clients : List Client
   pub out : Message → Type 0
 
-abbrev pub world : Facade → World
-world f = record { config = f.config; time = f.time; offsets = f.offsets; servers = f.servers; clients = f.clients; out = Waits f }
+abbrev pub basis : Facade → Basis
+basis f = record { config = f.config; time = f.time; offsets = f.offsets; servers = f.servers; clients = f.clients; out = Waits f }
 
-abbrev pub srv : World → ℕ → Server
+abbrev pub srv : Basis → ℕ → Server
 srv w k = get_or w.servers k no_server
 
-abbrev pub held : World → ℕ → State
+abbrev pub held : Basis → ℕ → State
 held w i = (get_or w.clients i no_client).state
 
-abbrev pub clk : World → ℕ → ℕ
+abbrev pub clk : Basis → ℕ → ℕ
 clk w p = clock_reading w.time (get_or w.offsets p (pos 0))
 
 -- The invariant.
 
 -- end e for address a is covered: by the record of each live leader, and at each server
 -- by its record or by what it would record at least on beginning to lead
-pub record Cov (w : World) (a e : ℕ) : Type 0 where
+pub record Cov (w : Basis) (a e : ℕ) : Type 0 where
   pub led : (j : ℕ) → j < w.config.servers → T (srv w j).alive → T (leads_at (srv w j) a) → e ≤ potlease_at (srv w j) a
   pub every : (j : ℕ) → j < w.config.servers → e ≤ max (potlease_at (srv w j) a) (w.time + w.config.skew + w.config.mclt)
 
@@ -71,20 +71,20 @@ abbrev pub Promises : Config → Message → ℕ → ℕ → ℕ → Type 0
 Promises c m i a e = Says c m.sender m.receiver m.body i a e
 
 -- a promise that is out: held, or in a message
-pub data Claim (w : World) (i a e : ℕ) : Type 0 where
+pub data Claim (w : Basis) (i a e : ℕ) : Type 0 where
   holds : (q : ℕ) → i < w.config.clients → held w i ≡ Holding a e q → Claim w i a e
   sent : (m : Message) → w.out m → Promises w.config m i a e → Claim w i a e
 
 -- an open write counts only servers whose record has its end
-abbrev pub CountOk : World → ℕ → List Bool → Option Pending → Type 0
+abbrev pub CountOk : Basis → ℕ → List Bool → Option Pending → Type 0
 CountOk w a acked None = Unit {0}
 CountOk w a acked (Some x) = (j : ℕ) → j < w.config.servers → T (get_or acked j false) → x.end ≤ potlease_at (srv w j) a
 
-abbrev pub OpenOk : World → ℕ → OpenWrite → Type 0
+abbrev pub OpenOk : Basis → ℕ → OpenWrite → Type 0
 OpenOk w a o = CountOk w a o.acked o.pending
 
 -- a write ack comes from a server whose record has the end
-abbrev pub BodyOk : World → ℕ → Body → Type 0
+abbrev pub BodyOk : Basis → ℕ → Body → Type 0
 BodyOk w from Empty = Unit {0}
 BodyOk w from Discover = Unit {0}
 BodyOk w from (Offer a) = Unit {0}
@@ -94,7 +94,7 @@ BodyOk w from (Write a v) = Unit {0}
 BodyOk w from (WriteAck a v) = v ≤ potlease_at (srv w from) a
 BodyOk w from (Ack a e) = Unit {0}
 
-pub record Leased (w : World) : Type 0 where
+pub record Leased (w : Basis) : Type 0 where
   pub rows : (k : ℕ) → k < w.config.servers → length (srv w k).potlease ≡ 32
   pub claims : (i a e : ℕ) → a < w.config.addresses → Claim w i a e → Cov w a e
   pub lents : (k a : ℕ) → k < w.config.servers → a < w.config.addresses → Cov w a (lent_at (srv w k) a)
@@ -106,14 +106,14 @@ pub record Leased (w : World) : Type 0 where
 
 -- What time and the servers may do to what is covered.
 
-pub record Grows (w w' : World) : Type 0 where
+pub record Grows (w w' : Basis) : Type 0 where
   pub same : w'.config ≡ w.config
   pub later : w.time ≤ w'.time
   pub records : (j a : ℕ) → potlease_at (srv w j) a ≤ potlease_at (srv w' j) a
   pub leads : (j a e : ℕ) → j < w.config.servers → a < w.config.addresses
       → T (srv w' j).alive → T (leads_at (srv w' j) a) → Cov w a e → e ≤ potlease_at (srv w' j) a
 
-module _ (w w' : World) (x : Grows w w') where
+module _ (w w' : Basis) (x : Grows w w') where
   here : (j : ℕ) → j < w'.config.servers → j < w.config.servers
   here j h = rw (← ap (λ c. c.servers) x.same) h
 
@@ -139,10 +139,10 @@ module _ (w w' : World) (x : Grows w w') where
 
 -- A step that leaves the servers.
 
-abbrev pub passed_by : World → ℕ → List ℤ → List Client → (Message → Type 0) → World
+abbrev pub passed_by : Basis → ℕ → List ℤ → List Client → (Message → Type 0) → Basis
 passed_by w t os xs out = record { config = w.config; time = t; offsets = os; servers = w.servers; clients = xs; out = out }
 
-module _ (w : World) (v : Leased w) (t : ℕ) (os : List ℤ) (xs : List Client) (out : Message → Type 0) (h : w.time ≤ t) where
+module _ (w : Basis) (v : Leased w) (t : ℕ) (os : List ℤ) (xs : List Client) (out : Message → Type 0) (h : w.time ≤ t) where
   plain_grows : Grows w (passed_by w t os xs out)
   plain_grows = record { same = refl; later = h; records = λ j a. le_refl _; leads = λ j a e hj ha al le c. c.led j hj al le }
 
@@ -163,17 +163,17 @@ module _ (w : World) (v : Leased w) (t : ℕ) (os : List ℤ) (xs : List Client)
 
 -- A step that replaces server k by s.
 
-abbrev pub served_by : World → ℕ → Server → (Message → Type 0) → World
+abbrev pub served_by : Basis → ℕ → Server → (Message → Type 0) → Basis
 served_by w k s out = record { config = w.config; time = w.time; offsets = w.offsets; servers = set w.servers k s; clients = w.clients; out = out }
 
 -- s records no less, and a live leader's record covers what was covered
-pub record Raised (w : World) (k : ℕ) (s : Server) : Type 0 where
+pub record Raised (w : Basis) (k : ℕ) (s : Server) : Type 0 where
   pub place : k < length w.servers
   pub row : length s.potlease ≡ 32
   pub up : (a : ℕ) → potlease_at (srv w k) a ≤ potlease_at s a
   pub lead : (a e : ℕ) → a < w.config.addresses → T s.alive → T (leads_at s a) → Cov w a e → e ≤ potlease_at s a
 
-module _ (w : World) (v : Leased w) (k : ℕ) (s : Server) (out : Message → Type 0) (r : Raised w k s) where
+module _ (w : Basis) (v : Leased w) (k : ℕ) (s : Server) (out : Message → Type 0) (r : Raised w k s) where
   pub served_grows : Grows w (served_by w k s out)
   served_grows = record {
     same = refl;
@@ -183,7 +183,7 @@ module _ (w : World) (v : Leased w) (k : ℕ) (s : Server) (out : Message → Ty
         (λ _. r.lead a e ha) (λ _ al le c. c.led j hj al le);
   }
 
-  -- with the claims of the new world given
+  -- with the claims of the new basis given
   pub served :
       ((a : ℕ) → a < w.config.addresses → Cov (served_by w k s out) a (lent_at s a))
       → ((a : ℕ) → a < w.config.addresses → OpenOk (served_by w k s out) a (write_at s a))

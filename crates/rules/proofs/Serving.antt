@@ -20,14 +20,14 @@ use Rattle.rules.proofs.Laws.{inl, and_l, cond_case, rep_ind, rep_false, length_
 use Rattle.rules.proofs.Cable.{Waits, waits_unsent}
 use Rattle.rules.proofs.Kept.{Configured, configured, Ranged, Kept}
 use Rattle.rules.proofs.Leadership.{OneLeader, clock_low}
-use Rattle.rules.proofs.Leases.{World, world, Cov, OpenOk, sent, Leased, body_grows, served_by, Raised, served_grows, quiet, still}
+use Rattle.rules.proofs.Leases.{Basis, basis, Cov, OpenOk, sent, Leased, body_grows, served_by, Raised, served_grows, quiet, still}
 use Rattle.rules.proofs.Granting.{silent}
 
 -- nothing is covered by anything
-pub cov_zero : (w : World) (a : ℕ) → Cov w a 0
+pub cov_zero : (w : Basis) (a : ℕ) → Cov w a 0
 cov_zero w a = record { led = λ j hj al le. omega arith; every = λ j hj. omega arith }
 
-module _ (f : Facade) (g : Ranged f) (four : length f.servers ≡ 4) (len : length f.messages ≡ 128) (v : Leased (world f)) where
+module _ (f : Facade) (g : Ranged f) (four : length f.servers ≡ 4) (len : length f.messages ≡ 128) (v : Leased (basis f)) where
   ok : Configured f.config
   ok = configured f.config g.config
 
@@ -38,11 +38,11 @@ module _ (f : Facade) (g : Ranged f) (four : length f.servers ≡ 4) (len : leng
   unsent : (m : Message) → Waits (send_all f nothing) m → Waits f m
   unsent m p = waits_unsent f g.waiting len m p
 
-  pub leased_fail : (k : ℕ) → Kept f (fail k) → Leased (world (effect f (fail k)).facade)
+  pub leased_fail : (k : ℕ) → Kept f (fail k) → Leased (basis (effect f (fail k)).facade)
   unfolding effect deed_of takes_out taken_out enacted server_after notices_after exists
   leased_fail k w =
       let hk : k < f.config.servers = ltb→lt k _ w.names in
-      still (world f) v k (with_life (server_at f k) false f.time) (Waits (send_all f nothing))
+      still (basis f) v k (with_life (server_at f k) false f.time) (Waits (send_all f nothing))
       (record { place = place k hk; row = v.rows k hk; up = λ a. le_refl _; lead = λ a e ha x. absurd x })
       hk (λ a. refl) (λ a. refl) (λ m p. v.acks m (unsent m p)) (λ m p i a e c. sent m (unsent m p) c)
 
@@ -50,18 +50,18 @@ module _ (f : Facade) (g : Ranged f) (four : length f.servers ≡ 4) (len : leng
   survive : (k a : ℕ) → potlease_at (server_at f k) a ≤ get_or (kept_records (server_at f k)) a 0
   survive k a = omega arith
 
-  pub leased_return : (k : ℕ) → Kept f (return k) → Leased (world (effect f (return k)).facade)
+  pub leased_return : (k : ℕ) → Kept f (return k) → Leased (basis (effect f (return k)).facade)
   unfolding effect deed_of takes_out taken_out enacted server_after notices_after exists after_return
   leased_return k w =
       let hk : k < f.config.servers = ltb→lt k _ w.names in
       let s : Server = with_life (after_return (clock f k) (server_at f k)).after true f.time in
-      let raised : Raised (world f) k s =
+      let raised : Raised (basis f) k s =
       record { place = place k hk; row = v.rows k hk; up = survive k; lead = λ a e ha _ t. absurd (rep_false 32 a t) } in
       let out = Waits (send_all f nothing) in
-      quiet (world f) v k s out raised
-      (λ a ha. rep_ind (λ x. Cov (served_by (world f) k s out) a x) 32 0 0 a (cov_zero _ a) (cov_zero _ a))
-      (λ a ha. rep_ind (λ x. OpenOk (served_by (world f) k s out) a x) 32 closed no_write a tt tt)
-      (λ m p. body_grows (world f) _ (served_grows (world f) v k s out raised) m.sender m.body (v.acks m (unsent m p)))
+      quiet (basis f) v k s out raised
+      (λ a ha. rep_ind (λ x. Cov (served_by (basis f) k s out) a x) 32 0 0 a (cov_zero _ a) (cov_zero _ a))
+      (λ a ha. rep_ind (λ x. OpenOk (served_by (basis f) k s out) a x) 32 closed no_write a tt tt)
+      (λ m p. body_grows (basis f) _ (served_grows (basis f) v k s out raised) m.sender m.body (v.acks m (unsent m p)))
       (λ m p i a e c. sent m (unsent m p) c)
 
   -- notice: on beginning to lead the record comes to cover every promise
@@ -77,14 +77,14 @@ module _ (f : Facade) (g : Ranged f) (four : length f.servers ≡ 4) (len : leng
     begins true false x y e t old new = new
     begins false was x y e t old new = absurd t
 
-    after_covers : (a e : ℕ) → T (server_at f k).alive → T (leads_after f.config k (clock f k) (server_at f k) b a) → Cov (world f) a e
+    after_covers : (a e : ℕ) → T (server_at f k).alive → T (leads_after f.config k (clock f k) (server_at f k) b a) → Cov (basis f) a e
         → e ≤ record_after f.config k (clock f k) (server_at f k) b a
     unfolding record_after
     after_covers a e al t c =
         begins (leads_after f.config k (clock f k) (server_at f k) b a) (leads_at (server_at f k) a) _ _ e t (c.led k hk al)
         (omega (arith, c.every k hk, clock_low f g k (omega arith)))
 
-    led_raised : length (server_at f k).leads ≡ 32 → Raised (world f) k (leading_with f.config k (clock f k) (server_at f k) b)
+    led_raised : length (server_at f k).leads ≡ 32 → Raised (basis f) k (leading_with f.config k (clock f k) (server_at f k) b)
     unfolding leading_with
     led_raised leads =
         let fits : (a : ℕ) → a < f.config.addresses → a < 32 = λ a ha. omega (arith, ok.addresses_high) in
@@ -99,16 +99,16 @@ module _ (f : Facade) (g : Ranged f) (four : length f.servers ≡ 4) (len : leng
           lead = λ a e ha al t c. rw (recorded a ha) (after_covers a e al (rw (led a ha) at t) c);
         }
 
-  pub leased_notice : (k j says : ℕ) → length (server_at f k).leads ≡ 32 → Kept f (notice k j says) → Leased (world (effect f (notice k j says)).facade)
+  pub leased_notice : (k j says : ℕ) → length (server_at f k).leads ≡ 32 → Kept f (notice k j says) → Leased (basis (effect f (notice k j says)).facade)
   unfolding effect deed_of takes_out taken_out enacted server_after notices_after exists noticed leading_with
   leased_notice k j says leads w =
       let hk : k < f.config.servers = ltb→lt k _ (and_l _ _ w.names) in
       let b : List Bool = set (server_at f k).believed j (eqb says 1) in
-      still (world f) v k (leading_with f.config k (clock f k) (server_at f k) b) (Waits (send_all f nothing)) (led_raised k hk b leads) hk (λ a. refl) (λ a. refl)
+      still (basis f) v k (leading_with f.config k (clock f k) (server_at f k) b) (Waits (send_all f nothing)) (led_raised k hk b leads) hk (λ a. refl) (λ a. refl)
       (λ m p. v.acks m (unsent m p))
       (λ m p i a e c. sent m (unsent m p) c)
 
-  pub leased_cleanup : OneLeader f → (k : ℕ) → Kept f (cleanup k) → Leased (world (effect f (cleanup k)).facade)
+  pub leased_cleanup : OneLeader f → (k : ℕ) → Kept f (cleanup k) → Leased (basis (effect f (cleanup k)).facade)
   unfolding effect deed_of takes_out taken_out enacted server_after notices_after exists cleaned
   leased_cleanup one k w =
       let hk : k < f.config.servers = ltb→lt k _ w.names in

@@ -316,14 +316,20 @@ server_acts f k x = accepted (send_all (with_server f k x.after) x.outbox) (outc
 abbrev pub client_acts : Facade → ℕ → Reaction Client → Answer
 client_acts f i x = accepted (send_all (with_client f i x.after) x.outbox) (outcome_number x.outcome)
 
+-- server k of a facade, which is s, after an event by its clock
+abbrev pub served : Facade → ℕ → Server → ServerEvent → Reaction Server
+served f k s e = server_after f.config f.time k (clock f k) s e
+
+-- client i of a facade after an event by its clock
+abbrev pub asked : Facade → ℕ → ClientEvent → Reaction Client
+asked f i e = client_after f.config f.next i (clock f (client_party f.config i)) (state_at f i) e
+
 -- what happens in a facade
 unfoldable pub enacted : Facade → Deed → Answer
 enacted f Rests = accepted f 0
 enacted f (Passes d p e) = accepted (lapse (moved f d p e)) 0
-enacted f (Serves k e) =
-    server_acts (with_notices f (notices_after f.notices f.time k e)) k (server_after f.config f.time k (clock f k) (server_at f k) e)
-enacted f (Asks i e) =
-    client_acts (with_next f (next_after f.next e)) i (client_after f.config f.next i (clock f (client_party f.config i)) (state_at f i) e)
+enacted f (Serves k e) = server_acts (with_notices f (notices_after f.notices f.time k e)) k (served f k (server_at f k) e)
+enacted f (Asks i e) = client_acts (with_next f (next_after f.next e)) i (asked f i e)
 
 -- the facade and the outcome of a step that is not refused
 unfoldable pub effect : Facade → Action → Answer

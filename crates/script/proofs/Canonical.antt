@@ -10,7 +10,7 @@ use Rattle.types.specs.declared.Step.{Step}
 use Rattle.rules.specs.Steps.{unknown, action_of}
 use Rattle.rules.proofs.Laws.{cond_case}
 use Rattle.rules.proofs.Actions.{action_unknown}
-use Rattle.script.specs.Layout.{field_count, step_of, fields_of}
+use Rattle.script.specs.Layout.{field_count, step_of, fields_of, first_record}
 use Rattle.script.specs.Reading.{Decoded, Found, step_in, is_framed, decode, part, is_whole, record_at, steps_from, steps_of}
 use Rattle.script.specs.Writing.{canonical}
 
@@ -77,4 +77,4 @@ canonical_from (suc n) s p =
 -- so are the steps of any script
 pub canonical_steps : (s : List ℕ) → map canonical (steps_of s) ≡ steps_of s
 unfolding steps_of
-canonical_steps s = canonical_from (length s) s 29
+canonical_steps s = canonical_from (length s) s first_record

@@ -12,7 +12,7 @@ use Rattle.rules.specs.Conditions.{◌and◌, ◌or◌}
 use Rattle.rules.specs.Steps.{Action, pass, fail, return, notice, discover, request, renew, deliver, lose, cleanup, unknown, action_of, is_known}
 use Rattle.rules.proofs.Laws.{and_l, and_r, or_elim, within_low}
 use Rattle.rules.proofs.Actions.{action_unknown, known_kind}
-use Rattle.script.specs.Layout.{field_count, step_of, fields_of, length_of}
+use Rattle.script.specs.Layout.{field_count, step_of, fields_of, length_of, first_record}
 use Rattle.script.specs.Reading.{longest, is_script, step_in, is_framed}
 
 -- the tests of the rules are those of the library
@@ -68,5 +68,5 @@ framed_is_long r t =
     or_elim _ _ (and_r _ _ b) (λ x. omega (arith, eqb→eq (fields_of k) 0 x)) (λ x. omega (arith, eqb→eq (length r) (length_of k) x))
 
 -- a script has a header
-pub script_is_long : (s : List ℕ) → T (is_script s) → 29 ≤ length s
-script_is_long s t = within_low 29 longest (length s) (and_l _ _ t)
+pub script_is_long : (s : List ℕ) → T (is_script s) → first_record ≤ length s
+script_is_long s t = within_low first_record longest (length s) (and_l _ _ t)

@@ -15,7 +15,7 @@ use Rattle.rules.specs.Ranges.{config_in_range}
 use Rattle.rules.proofs.Laws.{true_of, and_l, and_r, within_low, within_high, unless_ok, cond_case}
 use Rattle.wire.specs.Numbers.{over}
 use Rattle.wire.proofs.Numbers.{number_front}
-use Rattle.script.specs.Layout.{step_refusal, header_of, record_of, records_of, script_of}
+use Rattle.script.specs.Layout.{step_refusal, first_record, header_of, record_of, records_of, script_of}
 use Rattle.script.specs.Reading.{Header, longest, config_read, is_script, header_in, record_at, or_else, records_refusal, steps_from, verdict, steps_of}
 use Rattle.script.specs.Writing.{row_at, rows, steps_in, steps_refusal, write_refusal, written, script_into, flat, canonical}
 use Rattle.script.proofs.Tests.{test_passed, none_met}
@@ -103,11 +103,11 @@ records_written (suc n) s p b fuel ok = written_more n s p b fuel ok (λ q. reco
 
 -- The header.
 
-pub header_length : (c : Config) → length (header_of c) ≡ 29
+pub header_length : (c : Config) → length (header_of c) ≡ first_record
 unfolding header_of
 header_length c = refl
 
-pub script_length : (c : Config) (rest : List ℕ) → length (header_of c ++ rest) ≡ 29 + length rest
+pub script_length : (c : Config) (rest : List ℕ) → length (header_of c ++ rest) ≡ first_record + length rest
 script_length c rest = rw (length-append, header_length)
 
 module _ (c : Config) (rest : List ℕ) (t : T (config_in_range c)) where
@@ -134,15 +134,15 @@ module _ (c : Config) (rest : List ℕ) (t : T (config_in_range c)) where
   unfolding header_in header_of is_within ◌and◌ unless
   header_read h =
       let s = header_of c ++ rest in
-      let l : 29 ≤ length s = omega (arith, script_length c rest) in
-      rw (le-leb 29 (length s) l, le-leb (length s) longest h, config_read_lem, true_of (config_in_range c) t)
+      let l : first_record ≤ length s = omega (arith, script_length c rest) in
+      rw (le-leb first_record (length s) l, le-leb (length s) longest h, config_read_lem, true_of (config_in_range c) t)
 
 config_written : (q rest : List ℕ) → Fours 7 q → header_of (config_read (1 ∷ q ++ rest)) ≡ 1 ∷ q
 unfolding header_of config_read
 config_written q rest (more a (more b (more c (more d (more e (more f (more g none))))))) =
     joined (joined (joined (joined (joined (joined (joined {a = 1 ∷ []} refl a) b) c) d) e) f) g
 
-front_written : (s : List ℕ) → Bytes s → 29 ≤ length s → get_or s 0 0 ≡ 1 → header_of (config_read s) ≡ take 29 s
+front_written : (s : List ℕ) → Bytes s → first_record ≤ length s → get_or s 0 0 ≡ 1 → header_of (config_read s) ≡ take first_record s
 front_written [] b h e = absurd (omega arith)
 front_written (v ∷ l) b h e =
     let q = take 28 l in
@@ -153,7 +153,7 @@ front_written (v ∷ l) b h e =
 record HeaderOk (s : List ℕ) (c : Config) : Type 0 where
   in_range_lem : T (config_in_range c)
   short : length s ≤ longest
-  front : header_of c ≡ take 29 s
+  front : header_of c ≡ take first_record s
 
 module _ (s : List ℕ) (b : Bytes s) (ok : (header_in s).refusal ≡ 0) where
   is_script_lem : T (is_script s) × (header_in s ≡ record { refusal = unless (config_in_range (config_read s)) 2 0; config = config_read s })
@@ -163,11 +163,11 @@ module _ (s : List ℕ) (b : Bytes s) (ok : (header_in s).refusal ≡ 0) where
   header_accepted : HeaderOk s (header_in s).config
   header_accepted =
       let w = and_l _ _ is_script_lem.0 in
-      let l = within_low 29 longest (length s) w in
+      let l = within_low first_record longest (length s) w in
       rw is_script_lem.1
       (record {
         in_range_lem = (unless_ok (config_in_range (config_read s)) 2 0 (omega arith) (rw is_script_lem.1 at ok)).0;
-        short = within_high 29 longest (length s) w;
+        short = within_high first_record longest (length s) w;
         front = front_written s b l (eqb→eq (get_or s 0 0) 1 (and_r _ _ is_script_lem.0));
       })
 
@@ -209,8 +209,8 @@ module _ (c : Config) (ss : List Step) (n : ℕ) where
       let a = not_refused e in
       let s = script_of c ss in
       let h = header_read c (records_of ss) a.0 a.2 in
-      let d : drop 29 s ≡ records_of ss = drop_at (header_of c) (records_of ss) 29 (header_length c) in
-      let r = records_read ss (length s) s 29 w a.1 d (omega arith) in
+      let d : drop first_record s ≡ records_of ss = drop_at (header_of c) (records_of ss) first_record (header_length c) in
+      let r = records_read ss (length s) s first_record w a.1 d (omega arith) in
       record { accepted = rw (h, r.0); config = rw h; steps = r.1 }
 
 -- what the writer says that it wrote is in the buffer, and reads the same
@@ -227,15 +227,15 @@ module _ (s : List ℕ) (b : Bytes s) (e : verdict s ≡ 0) where
   read_write =
       let o = none_met (header_in s).refusal _ e in
       let h = header_accepted s b o.0 in
-      let r = records_written (length s) s 29 b (omega arith) o.1 in
-      rw (h.front, r.0) (take-append-drop 29 s)
+      let r = records_written (length s) s first_record b (omega arith) o.1 in
+      rw (h.front, r.0) (take-append-drop first_record s)
 
   not_refused_again : (n : ℕ) → length s ≤ n → write_refusal (header_in s).config (steps_of s) n ≡ 0
   unfolding verdict steps_of AsBytes
   not_refused_again n room =
       let o = none_met (header_in s).refusal _ e in
       let h = header_accepted s b o.0 in
-      let r = records_written (length s) s 29 b (omega arith) o.1 in
+      let r = records_written (length s) s first_record b (omega arith) o.1 in
       let l : length (script_of (header_in s).config (steps_of s)) ≡ length s = ap length read_write in
       tests_passed (header_in s).config (steps_of s) n h.in_range_lem r.1 (omega (arith, h.short)) (omega arith)
 

@@ -1,9 +1,11 @@
 // What is sealed in: a server's notices, return and cleanup, and the messages that it handles.
-// s is the server's value. A server knows no facade and no true time.
+// s is the server, changed where it stands. A server knows no facade and no true time.
 #![tactic(auto)]
 
 ghost use Rattle.std.specs.Prelude.{◌≡◌, ◌<◌, T};
 ghost use Rattle.types.specs.declared.Reservation.{Reservation};
+ghost use Rattle.types.specs.declared.Outcome.TheVariants.{Done};
+ghost use Rattle.rules.specs.Messages.{answer, nothing as nothing'};
 ghost use Rattle.rules.specs.Parts.{binding_at as binding_at', with_binding};
 ghost use Rattle.rules.specs.Ranges.{body_in_range};
 ghost use Rattle.rules.specs.Server.{noticed as noticed', cleared_server, after_return, freed_if_old, cleaned as cleaned', is_request, address_of, handled_at, server_receives};
@@ -12,32 +14,30 @@ use leading::{may_lead, next_server, raised};
 use lending::{
     drop_reservations, lowest_offerable, on_discover, on_renew, on_request, reservations_by,
 };
-use outbox::{done, nothing, unmet};
+use outbox::{nothing, unmet};
 use ranges::{InRange, ServerAt};
 use types::{Binding, Body, Config, Matter, Message, Outcome, Reaction, Reservation, Server};
 use writes::{closed, on_write, on_write_ack};
 
 // A notice: server `about` is dead (0) or alive (1). For each address it is decided anew whether the server leads it.
-pub fn noticed(who: ServerAt, s: Server, about: u32, says: u32) -> Reaction<Server>
+pub fn noticed(who: ServerAt, s: &mut Server, about: u32, says: u32)
     requires { about < who.config.servers }
-    ensures { result ≡ noticed' who.config who.number who.reading s about says }
+    ensures { answer s.new Done nothing' ≡ noticed' who.config who.number who.reading s.old about says }
 {
-    let mut t = s;
-    t.believed[about as usize] = says == 1;
-    let b = t.believed;
+    s.believed[about as usize] = says == 1;
+    let b = s.believed;
     let c = who.known();
     let k = who.number;
     let r = who.reading;
     let mut first = 0;
     // by places: over a `zip` of the flags and the records the check leaves five goals to prove, for three
     for a in 0..who.config.addresses as usize {
-        let before = t.leads[a];
-        let now = may_lead(c, k, r, t.returned, before, b, first);
-        t.leads[a] = now;
-        t.potlease[a] = raised(c, r, before, now, t.potlease[a]);
+        let before = s.leads[a];
+        let now = may_lead(c, k, r, s.returned, before, b, first);
+        s.leads[a] = now;
+        s.potlease[a] = raised(c, r, before, now, s.potlease[a]);
         first = next_server(who.config.servers, first);
     }
-    done(t)
 }
 
 // A server that believes everyone live, with nothing led, reserved, lent or open.
@@ -59,10 +59,10 @@ pub fn cleared_server(alive: bool, changed: u32, returned: u32, records: [u32; 3
 
 // The server when it comes back: records survive, and all else of its own is as new.
 #[tactic(auto, unfolding(rules::specs::Server::after_return))]
-pub fn after_return(r: u32, s: Server) -> Reaction<Server>
-    ensures { result ≡ after_return r s }
+pub fn after_return(r: u32, s: &mut Server)
+    ensures { answer s.new Done nothing' ≡ after_return r s.old }
 {
-    done(cleared_server(s.alive, s.changed, r, s.potlease))
+    *s = cleared_server(s.alive, s.changed, r, s.potlease);
 }
 
 // A reservation, free if its reading + θ is below the clock.
@@ -73,16 +73,13 @@ fn freed_if_old(c: Config, r: u32, x: Option<Reservation>) -> Option<Reservation
     x.filter(|w| u64::from(r) <= u64::from(w.reading) + u64::from(c.retention))
 }
 
-// The server, whose clock reads r, with its old reservations dropped.
+// The server, whose clock reads r, drops its old reservations.
 #[tactic(auto, unfolding(rules::specs::Server::cleaned))]
-pub fn cleaned(c: InRange, r: u32, s: Server) -> Reaction<Server>
-    ensures { result ≡ cleaned' c r s }
+pub fn cleaned(c: InRange, r: u32, s: &mut Server)
+    ensures { answer s.new Done nothing' ≡ cleaned' c r s.old }
 {
     let n = c.config.addresses;
-    done(Server {
-        reserved: reservations_by(|x| freed_if_old(c.config, r, x), n, s.reserved),
-        ..s
-    })
+    reservations_by(|x| freed_if_old(c.config, r, x), n, &mut s.reserved);
 }
 
 #[tactic(auto, unfolding(rules::specs::Server::is_request))]
@@ -96,13 +93,13 @@ fn is_request(body: Body) -> bool
 // No `Option`: an empty body meets no condition, and a discover is tested again at address 0, where the test failed: a `None`
 // would get the same answer.
 #[tactic(auto, unfolding(rules::specs::Server::address_for))]
-fn address_for(who: ServerAt, s: &Server, body: Body) -> u32
+fn address_of(who: ServerAt, s: &Server, body: Body) -> u32
     ensures { result ≡ address_of who.config who.reading s.now body }
 {
     match body {
         Body::Empty => 0,
         Body::Discover => {
-            lowest_offerable(who.known(), who.reading, s.leads, s.reserved, s.potlease)
+            lowest_offerable(who.known(), who.reading, &s.leads, &s.reserved, &s.potlease)
         }
         Body::Offer(a)
         | Body::Request(a, _)
@@ -157,13 +154,13 @@ fn put_binding(s: &mut Server, at: usize, b: Binding)
 
 // A message that comes to the server. A dead one handles nothing.
 #[tactic(auto, using(rules::proofs::Kept::address_place), unfolding(rules::specs::Server::server_receives, rules::specs::Server::server_handles, rules::specs::Server::dropped))]
-pub fn server_receives(who: ServerAt, s: Server, m: Message) -> Reaction<Server>
+pub fn server_receives(who: ServerAt, s: &mut Server, m: Message) -> Reaction<()>
     requires { T (body_in_range who.config m.sender who.number m.body) }
-    ensures { result ≡ server_receives who.config who.number who.reading s m }
+    ensures { answer s.new result.outcome result.outbox ≡ server_receives who.config who.number who.reading s.old m }
 {
     if !s.alive {
         return Reaction {
-            after: s,
+            after: (),
             outcome: Outcome::Dead,
             outbox: nothing(),
         };
@@ -171,17 +168,16 @@ pub fn server_receives(who: ServerAt, s: Server, m: Message) -> Reaction<Server>
     let matter = Matter {
         party: m.sender,
         interaction: m.interaction,
-        address: address_for(who, &s, m.body),
+        address: address_of(who, s, m.body),
     };
-    let mut t = s;
     if is_request(m.body) {
-        t.reserved = drop_reservations(who.config.addresses, m.interaction, s.reserved);
+        drop_reservations(who.config.addresses, m.interaction, &mut s.reserved);
     }
     let at = matter.address as usize;
-    let x = handled_at(who, binding_at(&t, at), matter, m.body);
-    put_binding(&mut t, at, x.after);
+    let x = handled_at(who, binding_at(s, at), matter, m.body);
+    put_binding(s, at, x.after);
     Reaction {
-        after: t,
+        after: (),
         outcome: x.outcome,
         outbox: x.outbox,
     }

@@ -368,7 +368,8 @@ impl From<Refusal> for u32 {
     }
 }
 
-// What a server, what it keeps for one address, or a client is after handling something, the outcome, and what is sent.
+// What a party, or what a server keeps for one address, is after something happened, the outcome, and what is sent. A server that is
+// changed where it stands is not answered too: then `after` is `()`.
 #[derive(Clone, Copy)]
 pub struct Reaction<T> {
     pub after: T,

@@ -9,7 +9,7 @@
 ghost use Rattle.std.specs.Prelude.{◌≡◌, OnOk};
 ghost use Rattle.rules.specs.Steps.{step as step'};
 
-use arith::number_of;
+use arith::refusal_of;
 use input::{EXAMPLE, EXAMPLE_CONFIG};
 use std::io;
 use types::{Config, Facade, Step};
@@ -70,7 +70,7 @@ fn take(rt: &impl Print, f: &mut Facade, number: usize, s: Step) -> io::Result<(
     ensures { OnOk result (f.new ≡ (step' f.old s).facade) }
 {
     let x = facade::step(f, s);
-    let refusal = number_of(&x);
+    let refusal = refusal_of(&x);
     let outcome = x.map_or(0, u32::from);
     println!(rt; "{number} {refusal} {outcome} {} {}", f.time, f.waiting)
 }

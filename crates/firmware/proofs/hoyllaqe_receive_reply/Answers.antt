@@ -7,4 +7,4 @@ use Rattle.firmware.proofs.hoyllaqe_receive_reply.Goals as goal
 
 pub returns : goal.returns
 unfolding receive_reply_left
-returns c = c.answered.ensures _ (λ y h. search rules) ∙ with_message (client_in c.args.client.now 0) _ _ _ _ _ _
+returns c = c.replied.ensures _ (λ y h. search rules) ∙ with_message (client_in c.args.client.now 0) _ _ _ _ _ _

@@ -3,7 +3,7 @@ use native.Mathlib.Omega.{arith}
 use lib.ListN.{length, length-replicate}
 use Rattle.std.proofs.lemmas.Result.{on_ok_weaker}
 use Rattle.rig.proofs.Laws.{input_is_read}
-use Rattle.rig.proofs.run.Goals as goal
+use Rattle.rig.proofs.print_output.Goals as goal
 
 pub returns : goal.returns
 returns g c =
