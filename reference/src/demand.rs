@@ -4,7 +4,8 @@ use crate::facade::{Client, Facade};
 
 /// The first breach found, in words: two clients that hold one address, two
 /// live servers that lead one address, or a live server that leads a held
-/// address with a record earlier than the holder's end.
+/// address with a record earlier than the holder's end, which is the end that
+/// it kept (C-11).
 pub fn breach(facade: &Facade) -> Option<String> {
     let addresses = facade.configuration.addresses as usize;
     (0..addresses).find_map(|address| breach_at(facade, address))

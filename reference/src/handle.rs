@@ -145,23 +145,33 @@ impl Facade {
         }
     }
 
+    /// "A holding client that receives an ack shall keep the later of its own
+    /// end and the new one. A waiting client takes the end it gets. An ack
+    /// whose end is not above the client's clock is still outcome 1." (C-11)
+    ///
+    /// A client that waits has no end of its own yet.
     fn handle_ack(&mut self, party: usize, interaction: u32, address: usize, end: Tick) -> Answer {
         let clock = self.clock(party);
         let state = &mut self.clients[party - self.servers.len()];
-        let expected = match *state {
-            Client::Waiting { interaction: own, address: wished } => {
-                own == interaction && wished == address
+        let kept = match *state {
+            Client::Waiting { interaction: own, address: wished }
+                if own == interaction && wished == address =>
+            {
+                end
             }
-            Client::Holding { address: held, interaction: last, .. } => {
-                last == interaction && held == address
+            Client::Holding { address: held, end: own_end, interaction: last }
+                if last == interaction && held == address =>
+            {
+                own_end.max(end)
             }
-            _ => false,
+            _ => return Ok(Outcome::NotMet),
         };
-        if !expected || end <= clock {
+        // The ack's end is what counts here: a late ack changes nothing, also
+        // where the own end is later.
+        if end <= clock {
             return Ok(Outcome::NotMet);
         }
-        // The new end replaces the old, also where it is smaller.
-        *state = Client::Holding { address, end, interaction };
+        *state = Client::Holding { address, end: kept, interaction };
         Ok(Outcome::Done)
     }
 

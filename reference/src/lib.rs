@@ -11,6 +11,7 @@ pub mod facades;
 pub mod flat;
 pub mod generator;
 pub mod handle;
+pub mod held_ack;
 pub mod message;
 pub mod random;
 pub mod range;

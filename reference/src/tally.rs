@@ -3,6 +3,7 @@
 use std::fmt;
 
 use crate::facade::{Client, Facade};
+use crate::held_ack::{meeting, Meeting, MEETINGS};
 use crate::message::{Body, Message, TYPES};
 use crate::refusal::{Answer, Outcome, Refusal};
 use crate::script::{read_header, Records, HEADER_LENGTH};
@@ -25,8 +26,11 @@ pub struct Tally {
     pub deliveries: [[usize; 3]; 7],
     /// Acks by which a waiting client begins to hold.
     pub grants: usize,
-    /// Acks by which a holding client gets a new end.
-    pub renewed_holds: usize,
+    /// Acks that a holding client takes.
+    pub taken_while_held: usize,
+    /// Acks to a client that holds with their κ and address, by `Meeting`. The
+    /// late ones are not taken.
+    pub held_acks: [usize; 6],
     pub completed_writes: usize,
     /// A server begins to lead an address that another led last.
     pub failovers: usize,
@@ -42,6 +46,7 @@ pub struct Tally {
 struct Before {
     message: Option<Message>,
     receiver_held: bool,
+    meeting: Option<Meeting>,
     held: usize,
     /// By server, the addresses led, one bit each.
     led: Vec<u32>,
@@ -83,6 +88,9 @@ impl Tally {
         self.steps[usize::from(step.raw().kind)] += 1;
         self.most_waiting = self.most_waiting.max(facade.waiting.len());
         self.most_held = self.most_held.max(facade.held());
+        if let Some(meeting) = before.meeting {
+            self.held_acks[meeting as usize] += 1;
+        }
         match (step, before.message) {
             (Step::Pass { .. }, _) => self.expiries += before.held - facade.held(),
             (_, Some(message)) => {
@@ -100,7 +108,7 @@ impl Tally {
             return;
         }
         match message.body {
-            Body::Ack { .. } if held => self.renewed_holds += 1,
+            Body::Ack { .. } if held => self.taken_while_held += 1,
             Body::Ack { .. } => self.grants += 1,
             Body::WriteAck { address, .. } => {
                 let closed = facade.servers[message.to].entries[address].write.is_none();
@@ -139,6 +147,7 @@ fn look(facade: &Facade, step: Step) -> Before {
     Before {
         message,
         receiver_held,
+        meeting: message.and_then(|message| meeting(facade, &message)),
         held: facade.held(),
         led: (0..facade.servers.len()).map(|server| led_addresses(facade, server)).collect(),
     }
@@ -178,7 +187,10 @@ impl fmt::Display for Tally {
         }
         writeln!(out, "grants            {:>9}", self.grants)?;
         writeln!(out, "renewals taken    {:>9}", self.deliveries[2][0])?;
-        writeln!(out, "holds renewed     {:>9}", self.renewed_holds)?;
+        writeln!(out, "acks while held   {:>9}", self.taken_while_held)?;
+        for (name, count) in MEETINGS.iter().zip(self.held_acks) {
+            writeln!(out, "  {name:<15} {count:>9}")?;
+        }
         writeln!(out, "completed writes  {:>9}", self.completed_writes)?;
         writeln!(out, "failovers         {:>9}", self.failovers)?;
         writeln!(out, "  while held      {:>9}", self.held_failovers)?;

@@ -35,6 +35,7 @@ fn coverage_is_wide() {
             assert_eq!(*count > 0, possible == 1, "type {index}: {counts:?}");
         }
     }
+    assert!(tally.held_acks.iter().all(|&count| count >= 10), "{:?}", tally.held_acks);
 }
 
 /// Nearly full lists: every type with every number of servers, kept or not,
@@ -115,6 +116,9 @@ fn stored_sample() {
         let same = cases.iter().filter(|case| case.family == family);
         assert!(same.count() >= 20, "{family}");
     }
+    let mut tally = Tally::default();
+    cases.iter().for_each(|case| tally.add(case));
+    assert!(tally.held_acks.iter().all(|&count| count >= 1), "{:?}", tally.held_acks);
     let bytes = input(&cases);
     assert!(bytes.len() < 900_000);
     let as_stored = |case: &Case| (case.numbers.clone(), case.step);

@@ -3,6 +3,7 @@
 
 use reference::demand::breach;
 use reference::generator::{script, KINDS};
+use reference::held_ack::Meeting;
 use reference::random::Random;
 use reference::script::{decode, read_header, verdict, Records, HEADER_LENGTH, LONGEST_SCRIPT};
 use reference::tally::Tally;
@@ -152,6 +153,13 @@ fn coverage_is_wide() {
             let is_possible = possible & (1 << outcome) != 0;
             assert_eq!(count >= 20, is_possible, "type {index} outcome {outcome}");
         }
+    }
+    // No pass leaves a hold that is over.
+    for meeting in [Meeting::LateHoldOver, Meeting::HoldOver] {
+        assert_eq!(tally.held_acks[meeting as usize], 0, "{meeting:?}");
+    }
+    for meeting in [Meeting::LateHoldRuns, Meeting::OwnEarlier, Meeting::Same, Meeting::OwnLater] {
+        assert!(tally.held_acks[meeting as usize] >= 20, "{meeting:?}");
     }
     assert_eq!(tally.most_waiting, 128);
 }

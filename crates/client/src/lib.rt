@@ -4,7 +4,7 @@
 ghost use Rattle.std.specs.Prelude.{◌≡◌};
 ghost use Rattle.types.specs.declared.Outcome.TheVariants.{Unmet};
 ghost use Rattle.rules.specs.Messages.{nothing as nothing'};
-ghost use Rattle.rules.specs.Client.{is_offered, is_holding, reply as reply', broadcast as broadcast', lapsed as lapsed', discovers as discovers', requests as requests', renews as renews', asks_with, on_offer, expects as expects', on_ack, client_receives};
+ghost use Rattle.rules.specs.Client.{is_offered, is_holding, reply as reply', broadcast as broadcast', lapsed as lapsed', discovers as discovers', requests as requests', renews as renews', asks_with, on_offer, expects as expects', kept_end, on_ack, client_receives};
 ghost use Rattle.rules.specs.Steps.{held_among};
 
 use outbox::{nothing, to_each, unmet};
@@ -141,13 +141,28 @@ fn expects(x: State, q: u32, a: u32) -> bool
     }
 }
 
+// The end that is kept, where an ack says e: the later one where the client holds.
+#[tactic(auto, unfolding(rules::specs::Client::kept_end))]
+fn kept_end(x: State, e: u32) -> u32
+    ensures { result ≡ kept_end x e }
+{
+    match x {
+        State::Holding(_, own, _) => own.max(e),
+        _ => e,
+    }
+}
+
 // An ack of address a with end e.
 #[tactic(auto, using(rules::proofs::Laws::tests), unfolding(rules::specs::Client::on_ack))]
 fn on_ack(r: u32, x: State, q: u32, a: u32, e: u32) -> Reaction<Client>
     ensures { result ≡ on_ack r x q a e }
 {
     if expects(x, q, a) && r < e {
-        return reply(State::Holding(a, e, q), Outcome::Done, nothing());
+        return reply(
+            State::Holding(a, kept_end(x, e), q),
+            Outcome::Done,
+            nothing(),
+        );
     }
     unmoved(x)
 }

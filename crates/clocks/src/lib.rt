@@ -3,7 +3,7 @@
 
 ghost use Rattle.std.specs.Prelude.{◌≡◌, ◌+◌, ◌≤◌, ◌<◌, get_or, nat_abs};
 ghost use Rattle.rules.specs.Parts.{no_server, offset_at};
-ghost use Rattle.rules.specs.Steps.{offset_allows, has_heard, is_in_touch, are_in_touch, is_credible_notice, moved, lapse};
+ghost use Rattle.rules.specs.Steps.{offset_allows, has_heard, is_in_touch, are_in_touch, is_credible_notice, moved as moved', lapse as lapse'};
 ghost use Rattle.rules.proofs.Kept.{Configured};
 ghost use Rattle.rules.specs.Ranges.{last_time};
 
@@ -58,7 +58,7 @@ pub fn are_in_touch(c: Config, now: u32, ts: &[[u32; 4]; 4], ss: &[Server; 4]) -
 // True time and all clocks go on by d, and that of party p by e more.
 pub fn moved(f: &mut Facade, d: u32, p: u32, e: i32)
     requires { (f.old.time + d ≤ last_time) × (p < 36) × (nat_abs (offset_at f.old p) ≤ 1000) × (nat_abs e ≤ 2000) }
-    ensures { f.new ≡ moved f.old d p e }
+    ensures { f.new ≡ moved' f.old d p e }
 {
     let at = p as usize;
     f.time += d;
@@ -70,7 +70,7 @@ pub fn moved(f: &mut Facade, d: u32, p: u32, e: i32)
 #[tactic(auto, using(arith::proofs::Chains::written_none, arith::proofs::Chains::written_more, arith::proofs::Chains::written_all, arith::proofs::Chains::next_still), unfolding(rules::specs::Steps::lapsed_at, rules::specs::Steps::holds_ended, rules::specs::Steps::lapse))]
 pub fn lapse(f: &mut Facade)
     requires { Configured f.old.config × (f.old.time ≤ last_time) }
-    ensures { f.new ≡ lapse f.old }
+    ensures { f.new ≡ lapse' f.old }
 {
     let first = f.config.servers as usize;
     let count = f.config.clients as usize;

@@ -1,18 +1,13 @@
--- What happens to a party, and that it is in range.
+-- That what happens to a party is in range.
 use Rattle.std.specs.Prelude.{Bool, true, ℕ, ◌+◌, ◌≤◌, ◌<◌, T, nat_abs}
 use Rattle.types.specs.declared.Config.{Config}
-use Rattle.types.specs.declared.Server.{Server}
-use Rattle.types.specs.declared.Client.{Client}
-use Rattle.types.specs.declared.Reaction.{Reaction}
-use Rattle.types.specs.declared.ClientEvent.{ClientEvent}
 use Rattle.types.specs.declared.Facade.{Facade}
 use Rattle.types.specs.declared.ServerEvent.{ServerEvent}
 use Rattle.types.specs.declared.ServerEvent.TheVariants.{Fails, Returns, Notices, Receives, CleansUp}
 use Rattle.types.specs.declared.Deed.{Deed}
 use Rattle.types.specs.declared.Deed.TheVariants.{Rests, Passes, Serves, Asks}
-use Rattle.rules.specs.Parts.{server_at, state_at, parties, clock, client_party}
+use Rattle.rules.specs.Parts.{parties}
 use Rattle.rules.specs.Ranges.{is_server, body_in_range, last_time}
-use Rattle.rules.specs.Steps.{server_after, client_after}
 
 -- an event of server k: a notice is about a server, and a message is as its type has it
 unfoldable pub event_in_range : Config → ℕ → ServerEvent → Bool

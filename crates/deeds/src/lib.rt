@@ -5,7 +5,7 @@
 ghost use Rattle.std.specs.Prelude.{◌≡◌, ◌≤◌, ◌<◌, T};
 ghost use Rattle.rules.specs.Parts.{with_life, with_notices};
 ghost use Rattle.rules.specs.Messages.{answer};
-ghost use Rattle.rules.specs.Steps.{server_after, notices_after, client_after, next_after, served, asked};
+ghost use Rattle.rules.specs.Steps.{server_after, notices_after, client_after, next_after, served as served', asked as asked'};
 ghost use Rattle.deeds.specs.Deeds.{event_in_range};
 ghost use Rattle.rules.specs.Ranges.{after_last};
 ghost use Rattle.rules.proofs.Sizes.{WorldInRange};
@@ -43,12 +43,12 @@ fn server_after(who: ServerAt, t: u32, s: &mut Server, e: ServerEvent) -> Reacti
     done(())
 }
 
-// Server k of a facade, which is s, after an event by its clock. The facade keeps what it has of the server, since a step may be
-// refused yet.
+// Server k of a facade after an event by its clock, s being its value. The facade keeps what it has of the server, since a step may
+// be refused yet.
 #[tactic(auto, using(rules::proofs::Sizes::world_sizes, rules::proofs::Sizes::world_time, rules::proofs::Sizes::world_reading, std::proofs::lemmas::Int::ints))]
 pub fn served(f: &Facade, k: u32, s: &mut Server, e: ServerEvent) -> Reaction<()>
     requires { WorldInRange f.now × (k < f.now.config.servers) × T (event_in_range f.now.config k e) }
-    ensures { answer s.new result.outcome result.outbox ≡ served f.now k s.old e }
+    ensures { answer s.new result.outcome result.outbox ≡ served' f.now k s.old e }
 {
     let who = ServerAt {
         config: f.config,
@@ -89,7 +89,7 @@ fn client_after(who: ClientOf, n: u32, r: u32, x: State, e: ClientEvent) -> Reac
 #[tactic(auto, using(rules::proofs::Sizes::world_sizes, rules::proofs::Sizes::world_time))]
 pub fn asked(f: &Facade, i: u32, e: ClientEvent) -> Reaction<Client>
     requires { WorldInRange f.now × (i < f.now.config.clients) }
-    ensures { result ≡ asked f.now i e }
+    ensures { result ≡ asked' f.now i e }
 {
     let party = (f.config.servers + i) as usize;
     let reading = clock_reading(f.time, f.offsets[party]);

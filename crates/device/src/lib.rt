@@ -7,7 +7,7 @@ ghost use Rattle.types.specs.declared.Refusal.TheVariants.{OutOfRange, DoesNotEx
 ghost use Rattle.types.specs.Numbers.{refusal_of};
 ghost use Rattle.rules.specs.Conditions.{◌and◌, unless};
 ghost use Rattle.rules.specs.Ranges.{config_in_range, reading_in_range, server_in_range, state_in_range, last_time, after_last, last_reading, body_in_range, is_server};
-ghost use Rattle.rules.specs.Server.{noticed};
+ghost use Rattle.rules.specs.Server.{noticed as noticed'};
 ghost use Rattle.device.specs.Device.{message_fits, reply_of, device_receives, device_noticed, device_returned, device_cleaned, device_hears, device_discovers, device_requests, device_renews, device_lapses};
 
 use arith::check;
@@ -124,7 +124,7 @@ pub fn device_receives(d: Device<Server>, m: Message) -> Result<Reaction<Server>
 // What the server is after a notice. Apart from the tests that stand before it: in one function the check leaves a goal to prove.
 fn noticed(who: ServerAt, s: Server, about: u32, says: u32) -> Reaction<Server>
     requires { about < who.config.servers }
-    ensures { result ≡ noticed who.config who.number who.reading s about says }
+    ensures { result ≡ noticed' who.config who.number who.reading s about says }
 {
     let mut t = s;
     server::noticed(who, &mut t, about, says);

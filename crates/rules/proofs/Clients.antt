@@ -2,11 +2,11 @@
 use mathlib.Core.Path.{◌≡◌, refl}
 use mathlib.Core.Bool.{Bool, true, false, not, cond}
 use mathlib.Core.List.{List}
-use Prim.Native.Nat.{ℕ, ◌+◌, ◌≤◌, ◌<◌}
+use Prim.Native.Nat.{ℕ, ◌+◌, ◌≤◌, ◌<◌, max}
 use native.Mathlib.Nat.{le_refl}
 use native.Mathlib.Omega.{arith}
 use native.Mathlib.Decide.{dec_lt}
-use lib.Dec.{T, ltb, ltb→lt}
+use lib.Dec.{T, ltb, ltb→lt, eqb→eq}
 use lib.ListN.{length, get_or, set, get_or-eq_default}
 use lib.IntN.{ℤ, ◌+ℤ◌}
 use Rattle.types.specs.declared.State.{State}
@@ -19,12 +19,12 @@ use Rattle.types.specs.declared.Facade.{Facade}
 use Rattle.types.specs.declared.Outcome.{Outcome}
 use Rattle.types.specs.declared.Outcome.TheVariants.{Done, Unmet}
 use Rattle.types.specs.declared.Reaction.{Reaction}
-use Rattle.rules.specs.Conditions.{◌and◌, filled}
+use Rattle.rules.specs.Conditions.{filled}
 use Rattle.rules.specs.Parts.{no_client, in_state, state_at, offset_at, clock, client_party, message, with_next}
 use Rattle.rules.specs.Messages.{nothing}
-use Rattle.rules.specs.Client.{is_offered, is_holding, reply, broadcast, lapsed, discovers, requests, renews, asks_with, on_offer, expects, new_end, on_ack, client_handles, client_receives}
+use Rattle.rules.specs.Client.{is_offered, is_holding, reply, broadcast, lapsed, discovers, requests, renews, asks_with, on_offer, expects, kept_end, takes_ack, on_ack, client_handles, client_receives}
 use Rattle.rules.specs.Steps.{pass, discover, request, renew, state_allows, exists, client_acts, moved, lapse, deed_of, takes_out, taken_out, enacted, client_after, next_after, effect, holds_ended, lapsed_at}
-use Rattle.rules.proofs.Laws.{Or, inl, inr, and_r, cond_case, set_any, length_filled, filled_at}
+use Rattle.rules.proofs.Laws.{Or, inl, inr, and_l, and_r, cond_case, set_any, length_filled, filled_at}
 use Rattle.rules.proofs.Cable.{Waits, Posted, ToServer, waits_sent, posted_nothing, posted_each}
 use Rattle.rules.proofs.Kept.{Configured, configured, Ranged, Kept}
 use Rattle.rules.proofs.Leases.{basis, Says, Promises, Claim, holds, sent, BodyOk, Leased, passed_by, plain}
@@ -212,12 +212,39 @@ module _ (f : Facade) (g : Ranged f) (v : Leased (basis f)) where
     keeps_offer q a =
         cond_case Keeps (asks_with (state_at f i) q) (reply (Offered q a) Done nothing) _ (λ _. comes_to (Offered q a) Done (becomes_unheld i (Offered q a) tt)) (λ _. unmoved)
 
+    -- the later of two ends that were promised was promised
+    later_claim : (a e e' : ℕ) → Claim (basis f) i a e → Claim (basis f) i a e' → Dec (e' < e) → Claim (basis f) i a (max e' e)
+    later_claim a e e' c c' (yes h) = let is : max e' e ≡ e = omega arith in rw is c
+    later_claim a e e' c c' (no nh) = let is : max e' e ≡ e' = omega arith in rw is c'
+
+    -- the kept end was promised
+    kept_claim : (x : State) (q a e : ℕ) → state_at f i ≡ x → T (expects x q a) → Claim (basis f) i a e → Claim (basis f) i a (kept_end x e)
+    unfolding expects kept_end
+    kept_claim Idle q a e is t c = absurd t
+    kept_claim (Asking q') q a e is t c = absurd t
+    kept_claim (Offered q' a') q a e is t c = absurd t
+    kept_claim (Waiting q' a') q a e is t c = c
+    kept_claim (Holding a' e' q') q a e is t c =
+        let same : a' ≡ a = eqb→eq a' a (and_r _ _ t) in
+        later_claim a e e' c (rw (← same) (holds q' hi is)) (dec_lt e' e)
+
+    -- and it is above the clock, as that of the ack is
+    kept_high : (x : State) {r e : ℕ} → r < e → r < kept_end x e
+    unfolding kept_end
+    kept_high Idle h = h
+    kept_high (Asking q') h = h
+    kept_high (Offered q' a') h = h
+    kept_high (Waiting q' a') h = h
+    kept_high (Holding a' e' q') h = omega (arith, h)
+
     keeps_ack : (q a e : ℕ) → Claim (basis f) i a e → Keeps (on_ack (clock f (client_party f.config i)) (state_at f i) q a e)
     unfolding on_ack
     keeps_ack q a e c =
-        cond_case Keeps (expects (state_at f i) q a and ltb (clock f (client_party f.config i)) e) (reply (Holding a (new_end (state_at f i) e) q) Done nothing) _
-        (λ t. comes_to (Holding a e q) Done (λ a' e' q' y. let p : a ≡ a' = cc in let p' : e ≡ e' = cc in
-        (rw (← p, ← p') c, rw (← p') (ltb→lt _ _ (and_r (expects (state_at f i) q a) (ltb (clock f (client_party f.config i)) e) t)))))
+        cond_case Keeps (takes_ack (clock f (client_party f.config i)) (state_at f i) q a e) (reply (Holding a (kept_end (state_at f i) e) q) Done nothing) _
+        (λ t. comes_to (Holding a (kept_end (state_at f i) e) q) Done (λ a' e' q' y. let p : a ≡ a' = cc in let p' : kept_end (state_at f i) e ≡ e' = cc in (
+          rw (← p, ← p') (kept_claim (state_at f i) q a e refl (and_l _ _ t) c),
+          rw (← p') (kept_high (state_at f i) (ltb→lt (clock f (client_party f.config i)) e (and_r (expects (state_at f i) q a) _ t))),
+        )))
         (λ _. unmoved)
 
     keeps_body : (from to q : ℕ) (b : Body) → to ≡ client_party f.config i → ((i' a e : ℕ) → Says f.config from to b i' a e → Claim (basis f) i' a e)

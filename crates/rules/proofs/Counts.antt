@@ -2,7 +2,7 @@
 use mathlib.Core.Bool.{false}
 use Prim.Native.Nat.{ℕ, ◌≤◌, ◌<◌}
 use native.Mathlib.Omega.{arith}
-use lib.Dec.{leb, ltb}
+use lib.Dec.{leb}
 use Rattle.types.specs.declared.Config.{Config}
 use Rattle.types.specs.declared.Server.{Server}
 use Rattle.types.specs.declared.Binding.{Binding}
@@ -16,7 +16,7 @@ use Rattle.rules.specs.Conditions.{◌and◌}
 use Rattle.rules.specs.Parts.{message, client_party}
 use Rattle.rules.specs.Messages.{nothing, post}
 use Rattle.rules.specs.Server.{written_end, ack_end, offerable, offered, on_discover, granted, grantable, on_request, on_renew, on_write, matches_write, on_write_ack, handled_at, server_handles, server_receives}
-use Rattle.rules.specs.Client.{is_holding, broadcast, discovers, requests, renews, asks_with, on_offer, expects, on_ack, client_handles, client_receives}
+use Rattle.rules.specs.Client.{is_holding, broadcast, discovers, requests, renews, asks_with, on_offer, takes_ack, on_ack, client_handles, client_receives}
 use Rattle.rules.proofs.Laws.{cond_case}
 use Rattle.rules.proofs.Cable.{servers_count, others_count}
 
@@ -80,4 +80,4 @@ few_replied r x m = go m.body
     go (Renew a e t) = omega arith
     go (Write a v) = omega arith
     go (WriteAck a v) = omega arith
-    go (Ack a e) = cond_case Few (expects x m.interaction a and ltb r e) _ _ (λ _. omega arith) (λ _. omega arith)
+    go (Ack a e) = cond_case Few (takes_ack r x m.interaction a e) _ _ (λ _. omega arith) (λ _. omega arith)

@@ -37,7 +37,7 @@ use Rattle.rules.specs.Ranges.{config_in_range, interaction_in_range, offset_in_
 use Rattle.types.specs.declared.Deed.{Deed}
 use Rattle.rules.specs.Messages.{answer, nothing, post, send_all, without}
 use Rattle.rules.specs.Server.{at_address, closed, lead_record, leads_after, record_after, leading_with, noticed, after_return, reservations_by, freed_if_old, cleaned, offerable, offered, on_discover, address_for, address_of, handled_at, is_request, granted, freed_if_of, dropped, grantable, on_request, on_renew, on_write, matches_write, acknowledged, on_write_ack, server_handles, server_receives}
-use Rattle.rules.specs.Client.{is_holding, reply, broadcast, lapsed, discovers, requests, renews, asks_with, on_offer, expects, on_ack, client_handles}
+use Rattle.rules.specs.Client.{is_holding, reply, broadcast, lapsed, discovers, requests, renews, asks_with, on_offer, kept_end, takes_ack, on_ack, client_handles}
 use Rattle.rules.specs.Steps.{fresh_server, fresh, Action, pass, fail, return, notice, discover, request, renew, deliver, lose, cleanup, unknown, action_of, fields_in_range, exists, of_pass, time_left, clock_allows, interaction_left, accepted, server_acts, client_acts, lapse, delivered, deed_of, takes_out, position, taken_out, enacted, server_after, notices_after, client_after, next_after, effect, broken, refusal, answer_to, step, run, malformed, holds_ended, barred, lapsed_at}
 use Rattle.rules.proofs.Laws.{Or, inl, inr, and_l, and_r, and_both, cond_case, all_at, all_by, set_any, rep_ind, filled_any}
 use Rattle.rules.proofs.Clocks.{plus_high, not_negative_later, not_negative_sum}
@@ -301,6 +301,14 @@ module _ (c : Config) (n i : ℕ) where
   replies : (x : State) (o : Outcome) → (i < c.clients → T (state_in_range c n x)) → ClientFits c n i (reply x o nothing)
   replies x o h = record { state = h; sends = λ m y. posted_nothing m y }
 
+  kept_in_range : (x : State) (e : ℕ) → T (state_in_range c n x) → T (end_in_range e) → T (end_in_range (kept_end x e))
+  unfolding state_in_range kept_end
+  kept_in_range Idle e h he = he
+  kept_in_range (Asking q) e h he = he
+  kept_in_range (Offered q a) e h he = he
+  kept_in_range (Waiting q a) e h he = he
+  kept_in_range (Holding a e' q) e h he = let old = and_l _ _ (and_r _ _ h) in omega bounds
+
   client_fits_lem : (r : ℕ) (x : State) → (i < c.clients → T (state_in_range c n x)) → (p k q : ℕ) → T (interaction_in_range n q) → (b : Body) → T (body_in_range c p k b)
       → ClientFits c n i (client_handles r x q b)
   unfolding client_handles body_in_range on_offer on_ack state_in_range
@@ -313,8 +321,9 @@ module _ (c : Config) (n i : ℕ) where
   client_fits_lem r x old p k q u (Write a v) h = replies x Unmet old
   client_fits_lem r x old p k q u (WriteAck a v) h = replies x Unmet old
   client_fits_lem r x old p k q u (Ack a e) h = let y = and_r _ _ (and_r _ _ h) in
-      cond_case (ClientFits c n i) (expects x q a and ltb r e) _ _
-      (λ _. replies (Holding a e q) Done (λ _. and_both _ _ (and_l _ _ y) (and_both _ _ (and_r _ _ y) u))) (λ _. replies x Unmet old)
+      cond_case (ClientFits c n i) (takes_ack r x q a e) _ _
+      (λ _. replies (Holding a (kept_end x e) q) Done (λ z. and_both _ _ (and_l _ _ y) (and_both _ _ (kept_in_range x e (old z) (and_r _ _ y)) u)))
+      (λ _. replies x Unmet old)
 
   -- its own steps
   module _ (g : Configured c) (hi : T (ltb i c.clients)) where

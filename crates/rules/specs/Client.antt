@@ -1,6 +1,6 @@
 -- What a client does, on its own state x: c is the configuration, i its number, r its clock reading.
 -- A step that its state does not allow changes nothing, sends nothing and has outcome 1; the facade refuses it before.
-use Rattle.std.specs.Prelude.{Bool, true, false, cond, ℕ, ltb, eqb}
+use Rattle.std.specs.Prelude.{Bool, true, false, cond, ℕ, ltb, eqb, max}
 use Rattle.types.specs.declared.Config.{Config}
 use Rattle.types.specs.declared.State.{State}
 use Rattle.types.specs.declared.State.TheVariants.{Idle, Asking, Offered, Waiting, Holding}
@@ -85,13 +85,23 @@ expects (Offered q' a') q a = false
 expects (Waiting q' a') q a = eqb q' q and eqb a' a
 expects (Holding a' e q') q a = eqb q' q and eqb a' a
 
--- "The new end replaces the old.": the state before is not looked at
-abbrev pub new_end : State → ℕ → ℕ
-new_end x e = e
+-- the kept end, where an ack says e. Document 02, C-11, in place of "The new end replaces the old": "A holding client .. shall keep
+-- the later of its own end and the new one. A waiting client takes the end it gets."
+unfoldable pub kept_end : State → ℕ → ℕ
+kept_end Idle e = e
+kept_end (Asking q) e = e
+kept_end (Offered q a) e = e
+kept_end (Waiting q a) e = e
+kept_end (Holding a e' q) e = max e' e
 
--- "holds until the end, if the end is above its clock"
+-- "if the end is above its clock": "An ack whose end is not above the client's clock is still outcome 1", whatever its own end is;
+-- one that changes nothing is taken all the same
+abbrev pub takes_ack : ℕ → State → ℕ → ℕ → ℕ → Bool
+takes_ack r x q a e = expects x q a and ltb r e
+
+-- "holds until the end"
 unfoldable pub on_ack : ℕ → State → ℕ → ℕ → ℕ → Reaction Client
-on_ack r x q a e = cond (expects x q a and ltb r e) (reply (Holding a (new_end x e) q) Done nothing) (reply x Unmet nothing)
+on_ack r x q a e = cond (takes_ack r x q a e) (reply (Holding a (kept_end x e) q) Done nothing) (reply x Unmet nothing)
 
 -- a message that is for a server has no condition here that is met
 unfoldable pub client_handles : ℕ → State → ℕ → Body → Reaction Client

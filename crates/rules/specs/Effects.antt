@@ -314,18 +314,31 @@ write_acks =
     ++ handles (odd ▷ server 1 (leads 3 true ∷ [])) (message 2 1 4 (WriteAck 3 160)) 1 [] []
     ++ handles (odd ▷ acked true false true ▷ server 1 (leads 1 false ∷ [])) (message 2 1 4 (WriteAck 1 160)) 1 [] []
 
+-- client 2 holds address 3 until e
+abbrev held : ℕ → Facade
+held e = odd ▷ client 2 (Holding 3 e 6)
+
 -- To clients: an offer with the κ that it asks with, and with another; an ack where client 0 waits at clock 99, and a late one;
--- an ack where client 2 holds until 150 at clock 100: a shorter end, a longer one, a late one, another address.
+-- an ack where client 2 holds at clock 100, until 300: an earlier end, the same, a later one, one that has passed, another address;
+-- one where its hold is over already; and acks where client 3 holds at clock 101.
 clients : List Row
 clients =
     handles odd (message 1 6 7 (Offer 2)) 0 (client 3 (Offered 7 2) ∷ []) []
     ++ handles odd (message 1 6 4 (Offer 2)) 1 [] []
     ++ handles odd (message 1 3 4 (Ack 2 100)) 0 (client 0 (Holding 2 100 4) ∷ []) []
+    ++ handles odd (message 1 3 4 (Ack 2 150)) 0 (client 0 (Holding 2 150 4) ∷ []) []
     ++ handles odd (message 1 3 4 (Ack 2 99)) 1 [] []
-    ++ handles odd (message 0 5 6 (Ack 3 120)) 0 (client 2 (Holding 3 120 6) ∷ []) []
-    ++ handles odd (message 0 5 6 (Ack 3 180)) 0 (client 2 (Holding 3 180 6) ∷ []) []
-    ++ handles odd (message 0 5 6 (Ack 3 100)) 1 [] []
-    ++ handles odd (message 0 5 6 (Ack 2 120)) 1 [] []
+    ++ handles (held 300) (message 0 5 6 (Ack 3 250)) 0 [] []
+    ++ handles (held 300) (message 0 5 6 (Ack 3 299)) 0 [] []
+    ++ handles (held 300) (message 0 5 6 (Ack 3 300)) 0 [] []
+    ++ handles (held 300) (message 0 5 6 (Ack 3 301)) 0 (client 2 (Holding 3 301 6) ∷ []) []
+    ++ handles (held 300) (message 0 5 6 (Ack 3 100)) 1 [] []
+    ++ handles (held 300) (message 0 5 6 (Ack 2 400)) 1 [] []
+    ++ handles (held 100) (message 0 5 6 (Ack 3 101)) 0 (client 2 (Holding 3 101 6) ∷ []) []
+    ++ handles (held 40) (message 0 5 6 (Ack 3 250)) 0 (client 2 (Holding 3 250 6) ∷ []) []
+    ++ handles (held 40) (message 0 5 6 (Ack 3 100)) 1 [] []
+    ++ handles (odd ▷ client 3 (Holding 2 300 7)) (message 1 6 7 (Ack 2 102)) 0 [] []
+    ++ handles (odd ▷ client 3 (Holding 2 300 7)) (message 1 6 7 (Ack 2 101)) 1 [] []
     -- an offer to a client that is idle, offered, waiting or holding, and an ack to one that is idle, asking or offered, each
     -- with its κ
     ++ handles (odd ▷ client 3 Idle) (message 1 6 7 (Offer 2)) 1 [] []

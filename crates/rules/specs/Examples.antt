@@ -19,13 +19,13 @@ use Rattle.rules.specs.Ranges.{config_in_range, interaction_in_range, offset_in_
 use Rattle.rules.specs.Order.{rank, is_first}
 use Rattle.rules.specs.Messages.{post_unless, to_servers, sent_behind, removed}
 use Rattle.rules.specs.Server.{closed, leads_after, record_after, leading_with, noticed, after_return, freed_if_old, cleaned, is_free, offerable, offered, on_discover, lowest_offerable, granted, freed_if_of, dropped, grantable, on_request, on_renew, on_write, matches_write, acknowledged, on_write_ack, address_for, handled_at, is_request, server_handles, server_receives}
-use Rattle.rules.specs.Client.{is_offered, is_holding, lapsed, discovers, requests, renews, asks_with, on_offer, expects, on_ack, client_handles}
+use Rattle.rules.specs.Client.{is_offered, is_holding, lapsed, discovers, requests, renews, asks_with, on_offer, expects, kept_end, on_ack, client_handles}
 use Rattle.rules.specs.Steps.{fresh, action_of, is_known, fields_in_range, exists, state_allows, of_pass, time_left, clock_allows, in_touch, is_credible, of_notice, interaction_left, lapse, delivered, deed_of, takes_out, position, taken_out, enacted, server_after, notices_after, client_after, next_after, effect, broken, refusal, answer_to, step, run, holds_ended, malformed, barred, lapsed_at}
 pub use Rattle.rules.specs.Steps.{step_of}
 
 -- the answer to a step; to open this one is to open every rule that it takes
 unfoldable pub answered : Facade → Step → Answer
-unfolding ◌and◌ ◌or◌ is_within unless all lowest filled as_signed config_in_range interaction_in_range offset_in_range reservation_in_range write_in_range address_in_range server_in_range notice_in_range state_in_range is_client body_in_range message_in_range in_range rank is_first post_unless to_servers sent_behind removed leads_after record_after leading_with noticed after_return freed_if_old cleaned is_free offerable offered on_discover lowest_offerable granted freed_if_of dropped grantable on_request on_renew on_write matches_write acknowledged on_write_ack address_for handled_at is_request server_handles server_receives lapsed discovers requests renews asks_with on_offer expects on_ack client_handles fresh action_of is_known fields_in_range exists is_offered is_holding state_allows of_pass time_left clock_allows in_touch is_credible of_notice interaction_left lapse lapsed_at holds_ended delivered deed_of takes_out position taken_out enacted server_after notices_after client_after next_after effect broken malformed barred refusal answer_to step run
+unfolding ◌and◌ ◌or◌ is_within unless all lowest filled as_signed config_in_range interaction_in_range offset_in_range reservation_in_range write_in_range address_in_range server_in_range notice_in_range state_in_range is_client body_in_range message_in_range in_range rank is_first post_unless to_servers sent_behind removed leads_after record_after leading_with noticed after_return freed_if_old cleaned is_free offerable offered on_discover lowest_offerable granted freed_if_of dropped grantable on_request on_renew on_write matches_write acknowledged on_write_ack address_for handled_at is_request server_handles server_receives lapsed discovers requests renews asks_with on_offer expects kept_end on_ack client_handles fresh action_of is_known fields_in_range exists is_offered is_holding state_allows of_pass time_left clock_allows in_touch is_credible of_notice interaction_left lapse lapsed_at holds_ended delivered deed_of takes_out position taken_out enacted server_after notices_after client_after next_after effect broken malformed barred refusal answer_to step run
 answered f s = step f s
 
 -- The ten steps by their numbers. A signed field is in two's complement.

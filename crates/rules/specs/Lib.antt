@@ -1,4 +1,4 @@
--- Document 01 as definitions, from the ground up. The theorems over them are in proofs/.
+-- Document 01, as C-11 of document 02 changes it, as definitions, from the ground up. The theorems over them are in proofs/.
 pub mod Conditions
 pub mod Clock
 pub mod Parts

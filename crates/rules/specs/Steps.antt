@@ -316,7 +316,7 @@ server_acts f k x = accepted (send_all (with_server f k x.after) x.outbox) (outc
 abbrev pub client_acts : Facade → ℕ → Reaction Client → Answer
 client_acts f i x = accepted (send_all (with_client f i x.after) x.outbox) (outcome_number x.outcome)
 
--- server k of a facade, which is s, after an event by its clock
+-- server k of a facade after an event by its clock, s being its value
 abbrev pub served : Facade → ℕ → Server → ServerEvent → Reaction Server
 served f k s e = server_after f.config f.time k (clock f k) s e
 

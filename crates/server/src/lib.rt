@@ -6,7 +6,7 @@ ghost use Rattle.std.specs.Prelude.{◌≡◌, ◌<◌, T};
 ghost use Rattle.types.specs.declared.Reservation.{Reservation};
 ghost use Rattle.types.specs.declared.Outcome.TheVariants.{Done};
 ghost use Rattle.rules.specs.Messages.{answer, nothing as nothing'};
-ghost use Rattle.rules.specs.Parts.{binding_at as binding_at', with_binding};
+ghost use Rattle.rules.specs.Parts.{binding_at, with_binding};
 ghost use Rattle.rules.specs.Ranges.{body_in_range};
 ghost use Rattle.rules.specs.Server.{noticed as noticed', cleared_server, after_return, freed_if_old, cleaned as cleaned', is_request, address_of, handled_at, server_receives};
 
@@ -129,7 +129,7 @@ fn handled_at(who: ServerAt, b: Binding, matter: Matter, body: Body) -> Reaction
 // What the server keeps for the address at that place.
 fn binding_at(s: &Server, at: usize) -> Binding
     requires { at < 32 }
-    ensures { result ≡ binding_at' s.now at }
+    ensures { result ≡ binding_at s.now at }
 {
     Binding {
         leads: s.leads[at],

@@ -369,7 +369,7 @@ impl From<Refusal> for u32 {
 }
 
 // What a party, or what a server keeps for one address, is after something happened, the outcome, and what is sent. A server that is
-// changed where it stands is not answered too: then `after` is `()`.
+// changed in place is no part of it: then `after` is `()`.
 #[derive(Clone, Copy)]
 pub struct Reaction<T> {
     pub after: T,

@@ -51,7 +51,11 @@ impl Painter<'_> {
         } else {
             let end = self.facade.clock(to) + self.random.pick(&[1, 1, 2, 100]);
             let waiting = Client::Waiting { interaction, address };
-            let holding = Client::Holding { address, end: self.end(to), interaction };
+            // The later of the two ends is kept, so they are often the same
+            // or a tick apart.
+            let any = self.end(to);
+            let own_end = self.random.pick(&[any, any, end - 1, end, end + 1, end + 100]);
+            let holding = Client::Holding { address, end: own_end, interaction };
             let state = self.random.pick(&[waiting, holding]);
             (state, Body::Ack { interaction, address, end })
         };

@@ -1,9 +1,10 @@
 //! What a case shows, so that stored cases show different things.
 
 use super::limits::outside;
-use super::tally::delivered;
+use super::tally::{delivered, met};
 use super::Case;
 use crate::flat::{facade_in_range, places, to_numbers, Answer};
+use crate::held_ack::Meeting;
 
 /// What a case shows: the refusal and the kind, and of a deliver that is
 /// accepted or has refusal 13 the type of the message and the outcome.
@@ -16,13 +17,14 @@ pub struct Sort {
 }
 
 /// What it shows besides: the parts of the list that changed, those in which
-/// an unused place changed, and of refusal 2 the number that is outside its
-/// range.
+/// an unused place changed, of refusal 2 the number that is outside its
+/// range, and of an ack how it meets a client that holds.
 #[derive(Clone, Copy, PartialEq, Eq, PartialOrd, Ord)]
 pub struct Detail {
     pub changed: u16,
     pub unused: u16,
     pub outside: Option<(&'static str, usize)>,
+    pub meeting: Option<Meeting>,
 }
 
 pub fn shown(case: &Case, answer: &Answer) -> (Sort, Detail) {
@@ -40,6 +42,7 @@ pub fn shown(case: &Case, answer: &Answer) -> (Sort, Detail) {
         changed: parts(&changed),
         unused: parts(&only_unused(&changed, &answer.facade)),
         outside: if refusal == 2 { outside(&case.numbers) } else { None },
+        meeting: if refusal == 0 { met(case) } else { None },
     };
     (sort, detail)
 }

@@ -3,8 +3,10 @@
 use std::fmt;
 
 use super::{families, Case};
+use crate::facade::Facade;
 use crate::flat::{self, facade_in_range, Answer};
-use crate::message::TYPES;
+use crate::held_ack::{meeting, Meeting, MEETINGS};
+use crate::message::{Message, TYPES};
 use crate::step::FORMS;
 
 #[derive(Clone, Debug)]
@@ -16,6 +18,9 @@ pub struct Tally {
     pub kinds: [[usize; 2]; 11],
     /// Delivered messages by type: outcomes 0, 1 and 2, and refusal 13.
     pub deliveries: [[usize; 4]; 7],
+    /// Acks to a client that holds with their κ and address, by `Meeting`. The
+    /// late ones are not taken.
+    pub held_acks: [usize; 6],
     /// Taken steps that changed the list, and those that did not.
     pub changed: [usize; 2],
 }
@@ -27,6 +32,7 @@ impl Default for Tally {
             families: families().map(|name| (name, [0; 14])).collect(),
             kinds: [[0; 2]; 11],
             deliveries: [[0; 4]; 7],
+            held_acks: [0; 6],
             changed: [0; 2],
         }
     }
@@ -57,6 +63,9 @@ impl Tally {
                 _ => {}
             }
         }
+        if let Some(meeting) = met(case).filter(|_| refusal == 0) {
+            self.held_acks[meeting as usize] += 1;
+        }
     }
 
     /// All cases with that refusal.
@@ -67,9 +76,20 @@ impl Tally {
 
 /// The type of the message that a deliver names.
 pub fn delivered(case: &Case) -> Option<usize> {
-    let facade = facade_in_range(&case.numbers).ok()?;
-    let message = facade.waiting.get(case.step[1] as usize)?;
-    (case.step[0] == 8).then_some(message.body.index())
+    let (_, message) = delivery(case)?;
+    Some(message.body.index())
+}
+
+/// How the ack that a deliver names meets a client that holds.
+pub fn met(case: &Case) -> Option<Meeting> {
+    let (facade, message) = delivery(case)?;
+    meeting(&facade, &message)
+}
+
+fn delivery(case: &Case) -> Option<(Facade, Message)> {
+    let facade = facade_in_range(&case.numbers).ok().filter(|_| case.step[0] == 8)?;
+    let message = *facade.waiting.get(case.step[1] as usize)?;
+    Some((facade, message))
 }
 
 impl fmt::Display for Tally {
@@ -103,6 +123,10 @@ impl fmt::Display for Tally {
         for (name, counts) in TYPES.iter().zip(&self.deliveries) {
             let [done, not_met, dead, full] = counts;
             writeln!(out, "  {name:<25} {done:>7} {not_met:>6} {dead:>6}  {full:>15}")?;
+        }
+        writeln!(out, "acks to a client that holds with their κ and address")?;
+        for (name, count) in MEETINGS.iter().zip(self.held_acks) {
+            writeln!(out, "  {name:<25} {count:>7}")?;
         }
         writeln!(out, "taken and changed    {:>6}", self.changed[0])?;
         writeln!(out, "taken, nothing changed {:>4}", self.changed[1])

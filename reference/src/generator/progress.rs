@@ -81,6 +81,8 @@ impl Author {
         }
         if waiting > self.temper.crowd {
             1
+        } else if clients.iter().any(|client| self.outlasts(client)) {
+            60
         } else if clients.iter().any(is_offered) {
             40
         } else if may_ask || may_renew {
@@ -103,15 +105,28 @@ impl Author {
             .any(|message| message.body.interaction() == interaction && !message.body.is_write())
     }
 
-    /// A fail shows most where a client holds.
+    /// A fail shows most where a client holds, and for longer than the next
+    /// leader will lend.
     fn fail_weight(&self) -> usize {
-        if !self.has_leader() {
-            self.temper.fail.min(1)
+        let fail = self.temper.fail;
+        if self.facade.clients.iter().any(|client| self.holds_long(client)) {
+            6 * fail
+        } else if self.temper.patient {
+            0
+        } else if !self.has_leader() {
+            fail.min(1)
         } else if self.facade.held() > 0 {
-            2 * self.temper.fail
+            2 * fail
         } else {
-            self.temper.fail
+            fail
         }
+    }
+
+    /// It will still hold when another server has heard of a fail and lent
+    /// the address for a short while.
+    fn holds_long(&self, client: &Client) -> bool {
+        let next = self.facade.time + self.facade.detection() + self.facade.mclt();
+        matches!(*client, Client::Holding { end, .. } if end > next)
     }
 
     /// Reservations that are not used block their addresses.

@@ -61,6 +61,10 @@ impl Author {
     }
 
     pub fn client_step(&mut self) -> Step {
+        let outlasting = self.some_outlasting_client();
+        if let Some(client) = outlasting.filter(|_| self.random.chance(700)) {
+            return self.renew_step(client);
+        }
         let offered = self.some_client(is_offered);
         let holding = if self.random.chance(900) {
             self.some_settled_client()
@@ -90,6 +94,28 @@ impl Author {
         self.one_of(&settled)
     }
 
+    fn some_outlasting_client(&mut self) -> Option<usize> {
+        let clients = &self.facade.clients;
+        let outlasting: Vec<usize> =
+            (0..clients.len()).filter(|&client| self.outlasts(&clients[client])).collect();
+        self.one_of(&outlasting)
+    }
+
+    /// A settled client that holds for longer than its leader will lend it,
+    /// where the leader has lent nothing that runs: it has just begun to lead.
+    pub fn outlasts(&self, client: &Client) -> bool {
+        let Client::Holding { address, end, .. } = *client else {
+            return false;
+        };
+        let facade = &self.facade;
+        let lends_less = facade.servers.iter().enumerate().any(|(server, state)| {
+            let entry = &state.entries[address];
+            let clock = facade.clock(server);
+            state.alive && entry.leads && entry.lent_end <= clock && clock + facade.mclt() < end
+        });
+        lends_less && self.is_settled(client)
+    }
+
     fn request_step(&mut self, client: usize) -> Step {
         let wanted = self.wanted(client);
         Step::Request { client, wanted }
@@ -110,7 +136,8 @@ impl Author {
             let any = self.random.between(0, largest);
             return self.random.pick(&[largest, largest - 1, any, clock + 1_000_000]);
         }
-        let wanted = match self.random.weighted(&[10, 15, 40, 25]) {
+        let weights = if self.temper.patient { [5, 5, 80, 10] } else { [10, 15, 40, 25] };
+        let wanted = match self.random.weighted(&weights) {
             0 => 0,
             1 => clock + mclt + self.random.between(-1, 1),
             2 => clock + self.random.between(1, self.temper.stretch as Tick * detection),

@@ -26,6 +26,9 @@ pub struct Temper {
     pub stretch: usize,
     /// Weight of a fail.
     pub fail: usize,
+    /// Servers fail only while a client holds for long, and ends are wanted
+    /// that are far enough off for that.
+    pub patient: bool,
     /// Weight of a return, where a server is dead.
     pub restore: usize,
     /// Weight of a lost message.
@@ -50,6 +53,7 @@ impl Temper {
         far: 10,
         stretch: 5,
         fail: 1,
+        patient: false,
         restore: 4,
         lose: 3,
         crowd: 12,
@@ -58,12 +62,14 @@ impl Temper {
     };
 
     pub fn of(kind: Kind, random: &mut Random) -> Temper {
+        let patient = random.chance(500);
         let calm = Temper {
             mischief: random.pick(&[0, 15, 40]),
             keep: random.pick(&[20, 60, 250]),
             far: random.pick(&[0, 10, 80]),
-            stretch: random.pick(&[3, 5, 20]),
-            fail: random.pick(&[0, 1, 1]),
+            stretch: if patient { 20 } else { random.pick(&[3, 5, 20]) },
+            fail: if patient { 1 } else { random.pick(&[0, 1, 1]) },
+            patient,
             crowd: random.pick(&[6, 12, 25, 60]),
             haste: random.pick(&[false, false, true]),
             ..Temper::CALM
@@ -75,7 +81,7 @@ impl Temper {
                 lie: random.pick(&[30, 200, 400]),
                 flap: random.pick(&[1, 5, 20]),
                 gossip: random.pick(&[100, 400]),
-                stretch: random.pick(&[5, 30, 100]),
+                stretch: random.pick(&[20, 30, 100]),
                 ..calm
             },
             Kind::Skewed => Temper { drift: random.pick(&[600, 950]), mischief: 40, ..calm },

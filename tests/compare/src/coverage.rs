@@ -2,6 +2,7 @@
 
 use std::fmt::Write;
 
+use reference::held_ack::Meeting;
 use reference::message::TYPES;
 use reference::step::FORMS;
 use reference::tally::Tally;
@@ -35,11 +36,12 @@ pub fn markdown(tally: &Tally) -> String {
     text
 }
 
-fn events(tally: &Tally) -> [(&str, usize); 9] {
+fn events(tally: &Tally) -> [(&str, usize); 10] {
     [
         ("grants", tally.grants),
         ("renewals taken by a server", tally.deliveries[2][0]),
-        ("holds renewed", tally.renewed_holds),
+        ("acks taken by a holding client", tally.taken_while_held),
+        ("acks that end before the hold", tally.held_acks[Meeting::OwnLater as usize]),
         ("completed writes", tally.completed_writes),
         ("failovers", tally.failovers),
         ("failovers while the address is held", tally.held_failovers),

@@ -1,5 +1,6 @@
 //! What selected scripts are to reach, each so many times at least.
 
+use reference::held_ack::Meeting;
 use reference::message::TYPES;
 use reference::step::FORMS;
 use reference::tally::Tally;
@@ -24,7 +25,8 @@ pub fn counts(tally: &Tally) -> Vec<usize> {
     let refusals = REFUSALS.iter().map(|&number| tally.refusals[number]);
     let steps = tally.steps[1..].iter().copied();
     let outcomes = deliveries().map(|(index, outcome)| tally.deliveries[index][outcome]);
-    refusals.chain(steps).chain(outcomes).collect()
+    let kept = tally.held_acks[Meeting::OwnLater as usize];
+    refusals.chain(steps).chain(outcomes).chain([kept]).collect()
 }
 
 /// Names of the goals, in the order of `counts`.
@@ -33,7 +35,8 @@ fn names() -> Vec<String> {
     let steps = FORMS.iter().map(|(name, _)| format!("step {name}"));
     let outcomes =
         deliveries().map(|(index, outcome)| format!("{} with outcome {outcome}", TYPES[index]));
-    refusals.chain(steps).chain(outcomes).collect()
+    let kept = "ack that ends before the hold".to_string();
+    refusals.chain(steps).chain(outcomes).chain([kept]).collect()
 }
 
 /// The goals that are not reached often enough, with how often they are.
@@ -53,9 +56,9 @@ mod tests {
     #[test]
     fn goals() {
         let none = counts(&Tally::default());
-        assert_eq!(none.len(), 39);
-        assert_eq!(names().len(), 39);
-        assert_eq!(missed(&none).len(), 39);
-        assert_eq!(missed(&[20; 39]), Vec::<String>::new());
+        assert_eq!(none.len(), 40);
+        assert_eq!(names().len(), 40);
+        assert_eq!(missed(&none).len(), 40);
+        assert_eq!(missed(&[20; 40]), Vec::<String>::new());
     }
 }
