@@ -21,6 +21,11 @@ pub rest_high : (n : ℕ) (taken : Bool) → rest_of n taken ≤ n
 rest_high n true = omega arith
 rest_high n false = omega arith
 
+-- and at most one less
+pub rest_low : (n : ℕ) (taken : Bool) → n ≤ rest_of n taken + 1
+rest_low n true = omega arith
+rest_low n false = omega arith
+
 -- the messages behind that at p move up, and the last of the n places is emptied
 pub moved_up : (ms : List Message) (p n : ℕ) → p < n → n ≤ length ms → set (copy_within ms (p + 1) n p) (n - 1) no_message ≡ removed ms p n
 unfolding removed

@@ -2,11 +2,11 @@
 #![tactic(auto)]
 
 ghost use Rattle.std.specs.Option.{is_some};
-ghost use Rattle.std.specs.Prelude.{◌≡◌, ◌≤◌, ◌<◌, cond, Ok, Err, T, IfSome, IfOk};
+ghost use Rattle.std.specs.Prelude.{◌≡◌, ◌≤◌, ◌<◌, cond, Ok, Err, T, IfSome};
 ghost use Rattle.types.specs.Numbers.{refusal_of};
 ghost use Rattle.types.specs.declared.Refusal.TheVariants.{Full};
 ghost use Rattle.types.specs.declared.Deed.TheVariants.{Serves, Asks};
-ghost use Rattle.rules.specs.Answers.{answer_of};
+ghost use Rattle.rules.specs.Answers.{answer_of, started};
 ghost use Rattle.rules.specs.Ranges.{in_range};
 ghost use Rattle.rules.specs.Steps.{fresh as fresh', start as start', enacted, answer_to, step as step', held_clients};
 ghost use Rattle.cable.specs.Exchange.{room_for, taken_from};
@@ -22,7 +22,8 @@ use deeds::{asked, next_after, notices_after, served};
 use ranges::{checked, in_range};
 use steps::{WellFormed, formed};
 use types::{
-    Client, ClientEvent, Config, Deed, Facade, Outbox, Outcome, Refusal, ServerEvent, State, Step,
+    Client, ClientEvent, Config, Deed, Facade, Outbox, Outcome, Refusal, Refused, ServerEvent,
+    State, Step,
 };
 
 // Before any step. All places are filled alike.
@@ -45,14 +46,16 @@ pub fn fresh(c: Config) -> Facade
     }
 }
 
-// The fresh facade of a configuration, or refusal 2 where a number of it is out of range.
+// The fresh facade of a configuration; refusal 2, beside the same facade, where a number of it is out of range.
 #[tactic(auto, unfolding(rules::specs::Conditions::unless, rules::specs::Steps::start))]
-pub fn start(c: Config) -> Result<Facade, Refusal>
-    ensures refusal { refusal_of result ≡ (start' c).refusal }
-    ensures facade { IfOk result (λ f. f ≡ (start' c).facade) }
+pub fn start(c: Config) -> Result<Facade, Refused<Facade>>
+    ensures { started result ≡ start' c }
 {
-    checked(c)?;
-    Ok(fresh(c))
+    let f = fresh(c);
+    match checked(c) {
+        Ok(_) => Ok(f),
+        Err(refusal) => Err(Refused { refusal, beside: f }),
+    }
 }
 
 // Refusal 13: there is no room for what is sent, the message at the position that is named being taken out.

@@ -97,6 +97,12 @@ module _ {A : Type 0} (numbers : A → List ℕ) (read : List ℕ → ℕ → A)
       let t : T (codes numbers read w l) = rw e tt in
       eqb→eq (length l) w (and_l (eqb (length l) w) (is_same (numbers (read l 0)) l) t)
 
+  pub coded : (l : List ℕ) → codes numbers read w l ≡ true → numbers (read l 0) ≡ l
+  unfolding codes
+  coded l e =
+      let t : T (codes numbers read w l) = rw e tt in
+      same_eq (numbers (read l 0)) l (and_r (eqb (length l) w) (is_same (numbers (read l 0)) l) t)
+
   -- the numbers of a flat value read as the value, and code it
   module _ {P : A → Type 0} {x : A} (h : IsFlat P numbers read w x) where
     pub own_reads : read (numbers x) 0 ≡ x

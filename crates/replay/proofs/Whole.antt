@@ -10,8 +10,8 @@ use borrow.Author.Tests.{ne_eqb, not-false}
 use Rattle.std.specs.Prelude.{Result, Ok, Err}
 use Rattle.std.specs.Result.{is_err}
 use Rattle.types.specs.declared.Config.{Config}
-use Rattle.types.specs.declared.Refusal.{Refusal}
-use Rattle.types.specs.Numbers.{refusal_number, refusal_of}
+use Rattle.types.specs.declared.Refused.{Refused}
+use Rattle.types.specs.Numbers.{refusal_number}
 use Rattle.rules.specs.Ranges.{config_in_range}
 use Rattle.rules.specs.Steps.{fresh}
 use Rattle.rules.proofs.Refusals.{is_some_refusal}
@@ -24,7 +24,7 @@ use Rattle.wire.specs.declared.Page.{Page}
 use Rattle.wire.specs.Pages.{put, HasRoom}
 use Rattle.wire.proofs.Pages.{room_first, room_then, put_then}
 use Rattle.script.specs.Layout.{first_record}
-use Rattle.script.specs.Reading.{Header, longest, is_script, no_config, config_read, header_in}
+use Rattle.script.specs.Reading.{Header, longest, is_script, no_config, config_read, header_in, header_as}
 use Rattle.report.specs.Lines.{record_line, facade_line}
 use Rattle.report.proofs.Laws.{record_line_short, facade_line_short}
 use Rattle.turns.specs.declared.Progress.{Progress}
@@ -33,21 +33,21 @@ use Rattle.replay.specs.Output.{first_line, beginning, output, most_output, outp
 use Rattle.turns.proofs.Lines.{lines_fit}
 
 -- where the header is refused, its number has a line of its own
-pub refused_first : (s : List ℕ) (n : Refusal) → refusal_number n ≡ (header_in s).refusal → record_line 0 (refusal_number n) 0 0 0 ≡ first_line s
+pub refused_first : (s : List ℕ) (x : Refused Config) → header_as (Err x) ≡ header_in s → record_line 0 (refusal_number x.refusal) 0 0 0 ≡ first_line s
 unfolding first_line
-refused_first s n e = rw (← e, ne_eqb (refusal_number n) 0 (is_some_refusal n))
+refused_first s x e = rw (← e, ne_eqb (refusal_number x.refusal) 0 (is_some_refusal x.refusal))
 
 -- any other has the first line
-pub accepted_first : (s : List ℕ) (c : Config) → 0 ≡ (header_in s).refusal → c ≡ (header_in s).config → facade_line c ≡ first_line s
+pub accepted_first : (s : List ℕ) (c : Config) → header_as (Ok c) ≡ header_in s → facade_line c ≡ first_line s
 unfolding first_line
-accepted_first s c e q = rw (← e, q)
+accepted_first s c e = rw (← e)
 
 -- the run begins with the fresh facade of the configuration, and has ended where it is refused
-pub begins : (s : List ℕ) (c : Config) (h : Result Config Refusal) → c ≡ (header_in s).config → refusal_of h ≡ (header_in s).refusal
+pub begins : (s : List ℕ) (c : Config) (h : Result Config (Refused Config)) → c ≡ (header_in s).config → header_as h ≡ header_in s
     → before (fresh c) first_record 1 (is_err h) ≡ beginning s
 unfolding beginning
 begins s c (Ok x) q e = rw (q, ← e)
-begins s c (Err n) q e = rw (q, ← e, ne_eqb (refusal_number n) 0 (is_some_refusal n))
+begins s c (Err x) q e = rw (q, ← e, ne_eqb (refusal_number x.refusal) 0 (is_some_refusal x.refusal))
 
 -- where h is the header
 module _ (s : List ℕ) (h : Header) (e : h ≡ header_in s) where

@@ -36,7 +36,7 @@ fn put_first_line(s: &[u8], page: &mut Page)
 {
     match header_in(s) {
         Ok(c) => put_facade_line(page, c),
-        Err(n) => put_result_line(page, 0, Err(n), 0, 0),
+        Err(x) => put_result_line(page, 0, Err(x.refusal), 0, 0),
     }
 }
 

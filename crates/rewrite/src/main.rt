@@ -3,6 +3,8 @@
 // up to the first that is refused with 3.
 #![tactic(auto)]
 
+ghost use Rattle.std.specs.Prelude.{◌≤◌, length};
+
 use arith::refusal_of;
 use input::read_full;
 use script::FIRST_RECORD;
@@ -12,7 +14,9 @@ use types::Config;
 
 // The steps of a script in rows of four numbers, up to the first record that is refused with 3, as every place from the script's
 // end on is, or as many as there is room for.
-fn read_rows<'a>(s: &[u8], rows: &'a mut [[u32; 4]]) -> &'a [[u32; 4]] {
+fn read_rows<'a>(s: &[u8], rows: &'a mut [[u32; 4]]) -> &'a [[u32; 4]]
+    ensures { length result.now ≤ length rows.old }
+{
     let mut p = FIRST_RECORD;
     for (n, row) in rows.iter_mut().enumerate() {
         let Ok(r) = script::record_at(s, p) else {

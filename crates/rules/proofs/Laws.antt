@@ -3,14 +3,14 @@ use mathlib.Core.Path.{◌≡◌, refl, ◌∙◌}
 use mathlib.Core.Logic.{◌≢◌}
 use mathlib.Core.Bool.{Bool, true, false, not, cond}
 use mathlib.Core.List.{List}
-use Prim.Native.Nat.{ℕ, zero, suc, ◌≤◌, ◌<◌}
+use Prim.Native.Nat.{ℕ, zero, suc, ◌+◌, ◌≤◌, ◌<◌}
 use native.Mathlib.Nat.{not-suc-le-zero}
 use native.Mathlib.Omega.{arith}
 use native.Mathlib.Decide.{ℕ_discrete, dec_lt}
 use lib.Dec.{T, eqb, leb→le, eqb_refl}
 use lib.ListN.{length, get_or, set, replicate, length-set}
 use lib.Seq.{get_or-set_same, get_or-set_other, set_out}
-use Rattle.rules.specs.Conditions.{◌and◌, ◌or◌, is_within, unless, all, filled}
+use Rattle.rules.specs.Conditions.{◌and◌, ◌or◌, is_within, unless, all, counted, filled}
 
 pub data Or (A B : Type 0) : Type 0 where
   inl : A → Or A B
@@ -110,6 +110,16 @@ pub all_by : (p : ℕ → Bool) (n : ℕ) → ((i : ℕ) → i < n → T (p i)) 
 unfolding all
 all_by p zero f = tt
 all_by p (suc n) f = and_both (p n) (all p n) (f n (omega arith)) (all_by p n (λ i h. f i (omega arith)))
+
+-- no more numbers are counted than there are
+counted_go : (b : Bool) (x n : ℕ) → x ≤ n → cond b (x + 1) x ≤ suc n
+counted_go true x n h = omega arith
+counted_go false x n h = omega arith
+
+pub counted_high : (p : ℕ → Bool) (n : ℕ) → counted p n ≤ n
+unfolding counted
+counted_high p zero = omega arith
+counted_high p (suc n) = counted_go (p n) (counted p n) n (counted_high p n)
 
 -- Lists.
 

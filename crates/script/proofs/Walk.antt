@@ -10,7 +10,7 @@ use lib.Dec.{T, eqb, leb, ltb→lt, eqb→eq}
 use lib.ListN.{length, get_or, take, drop}
 use borrow.Author.Tests.{le-leb, lt-leb, ne_eqb}
 use Rattle.std.specs.Prelude.{Ok, Err}
-use Rattle.types.specs.declared.Refusal.{Refusal}
+use Rattle.types.specs.declared.Refused.{Refused}
 use Rattle.types.specs.Numbers.{refusal_number}
 use Rattle.rules.proofs.Laws.{and_r, cond_case}
 use Rattle.script.specs.declared.Record.{Record}
@@ -83,7 +83,7 @@ module _ (s : List ℕ) (p : ℕ) (h : p < length s) where
   here : records_refusal (length s) s p ≡ or_else (record_at s p).refusal (records_refusal (length s) s (record_at s p).next)
   here = one_then_the_rest (length s) s p (omega arith) h
 
-  pub stops : {n : Refusal} → Err n ≡ result_of (record_at s p) → records_refusal (length s) s p ≡ refusal_number n
+  pub stops : {x : Refused ℕ} → Err x ≡ result_of (record_at s p) → records_refusal (length s) s p ≡ refusal_number x.refusal
   stops e = let q = none_at s p e in here ∙ rw (q.1, q.0)
 
   module _ {r : Record} (e : Ok r ≡ result_of (record_at s p)) where

@@ -3,6 +3,7 @@ use Rattle.std.specs.Prelude.{Bool, not, cond, List, [], ◌∷◌, ℕ, zero, s
 use Rattle.types.specs.declared.Config.{Config}
 use Rattle.types.specs.declared.Refusal.{Refusal}
 use Rattle.types.specs.declared.Refusal.TheVariants.{NoRecord}
+use Rattle.types.specs.declared.Refused.{Refused}
 use Rattle.types.specs.Numbers.{refusal_number}
 use Rattle.types.specs.declared.Step.{Step}
 use Rattle.rules.specs.Conditions.{◌and◌, ◌or◌, is_within, unless}
@@ -45,6 +46,11 @@ unfoldable pub header_in : List ℕ → Header
 header_in s =
     cond (is_script s) (record { refusal = unless (config_in_range (config_read s)) 2 0; config = config_read s })
     (record { refusal = 1; config = no_config })
+
+-- as the code answers it: the configuration stands beside a refusal too
+abbrev pub header_as : Result Config (Refused Config) → Header
+header_as (Ok c) = record { refusal = 0; config = c }
+header_as (Err x) = record { refusal = refusal_number x.refusal; config = x.beside }
 
 -- no step was read
 abbrev pub no_step : Step
@@ -96,9 +102,14 @@ record_at s p =
     (record { refusal = (decode (part s p)).refusal; step = (decode (part s p)).step; next = p + 1 + get_or s p 0 })
     (record { refusal = 3; step = no_step; next = length s })
 
--- as a result: refusal 3 stands in place of a record, and 4 and 5 are those of its step
-unfoldable pub result_of : Found → Result Record Refusal
-result_of x = cond (eqb x.refusal 3) (Err NoRecord) (Ok (record { step = x.step; next = x.next }))
+-- as a result: refusal 3 stands in place of a step, with the place behind, and 4 and 5 are those of the step
+unfoldable pub result_of : Found → Result Record (Refused ℕ)
+result_of x = cond (eqb x.refusal 3) (Err (record { refusal = NoRecord; beside = x.next })) (Ok (record { step = x.step; next = x.next }))
+
+-- what a result says is found
+abbrev pub found_as : Result Record (Refused ℕ) → Found
+found_as (Ok r) = record { refusal = step_refusal r.step; step = r.step; next = r.next }
+found_as (Err x) = record { refusal = refusal_number x.refusal; step = no_step; next = x.beside }
 
 -- n, or m where n is no refusal
 abbrev pub or_else : ℕ → ℕ → ℕ

@@ -1,16 +1,16 @@
 // A script read: its header, its records one by one, and the verdict on the whole.
 #![tactic(auto)]
 
-ghost use Rattle.std.specs.Prelude.{◌≡◌, ◌+◌, ◌*◌, ◌≤◌, cond, length, get_or, IfOk};
+ghost use Rattle.std.specs.Prelude.{◌≡◌, ◌+◌, ◌*◌, ◌≤◌, cond, length, get_or};
 ghost use Rattle.types.specs.Numbers.{refusal_of};
 ghost use Rattle.script.specs.Layout.{fields_of, length_of, step_refusal, first_record};
-ghost use Rattle.script.specs.Reading.{config_read, is_script, header_in, field_in, step_in, is_framed, decode as decode', decoded_as, record_at, result_of, records_refusal, verdict as verdict'};
+ghost use Rattle.script.specs.Reading.{config_read, is_script, header_in, header_as, field_in, step_in, is_framed, decode as decode', decoded_as, record_at, result_of, found_as, records_refusal, verdict as verdict'};
 
 use arith::check;
 use ranges::config_in_range;
 use std::array;
 use steps::{action_of, malformed};
-use types::{Config, Refusal, Step};
+use types::{Config, Refusal, Refused, Step};
 use wire::number_at;
 
 // The place of the first record, behind the version byte and the seven numbers.
@@ -56,14 +56,19 @@ pub fn config_in(s: &[u8]) -> Result<Config, Refusal>
     }
 }
 
-// The header of a script: refusals 1 and 2.
+// The header of a script: refusal 1, beside zeros, or 2, beside the configuration that is out of range.
 #[tactic(auto, unfolding(crate::specs::Reading::header_in, rules::specs::Conditions::unless))]
-pub fn header_in(s: &[u8]) -> Result<Config, Refusal>
-    ensures refusal { refusal_of result ≡ (header_in s.now).refusal }
-    ensures config { IfOk result (λ c. c ≡ (header_in s.now).config) }
+pub fn header_in(s: &[u8]) -> Result<Config, Refused<Config>>
+    ensures { header_as result ≡ header_in s.now }
 {
-    let c = config_in(s)?;
-    check(config_in_range(c), Refusal::OutOfRange)?;
+    let c = config_in(s).map_err(|refusal| Refused {
+        refusal,
+        beside: Config::default(),
+    })?;
+    check(config_in_range(c), Refusal::OutOfRange).map_err(|refusal| Refused {
+        refusal,
+        beside: c,
+    })?;
     Ok(c)
 }
 
@@ -147,23 +152,36 @@ pub fn decode(r: &[u8]) -> Result<Step, Refusal>
     }
 }
 
+// Refusal 3, and the place behind what is no record.
+fn no_record(next: usize) -> Result<Record, Refused<usize>>
+    ensures { result ≡ Err (record { refusal = Refusal.NoRecord; beside = next }) }
+{
+    Err(Refused {
+        refusal: Refusal::NoRecord,
+        beside: next,
+    })
+}
+
 // The record at place p, decoded as that part of the script: refusal 3, also where it is not whole, as from the end on.
-#[tactic(auto, using(crate::proofs::Results::outside, crate::proofs::Results::inside, crate::proofs::Walk::part_from_to))]
-pub fn record_at(s: &[u8], p: usize) -> Result<Record, Refusal>
-    ensures { result ≡ result_of (record_at s.now p) }
+#[tactic(auto, using(crate::proofs::Results::outside, crate::proofs::Results::inside, crate::proofs::Results::all_said, crate::proofs::Walk::part_from_to))]
+pub fn record_at(s: &[u8], p: usize) -> Result<Record, Refused<usize>>
+    ensures found { result ≡ result_of (record_at s.now p) }
+    ensures says { found_as result ≡ record_at s.now p }
 {
     let end = s.len();
     if end <= p {
-        return Err(Refusal::NoRecord);
+        return no_record(end);
     }
     let n = usize::from(s[p]);
     if end - p <= n {
-        return Err(Refusal::NoRecord);
+        return no_record(end);
     }
     let start = p + 1;
     let next = start + n;
-    let step = decode(&s[start..next])?;
-    Ok(Record { step, next })
+    match decode(&s[start..next]) {
+        Ok(step) => Ok(Record { step, next }),
+        Err(_) => no_record(next),
+    }
 }
 
 // The first refusal among the records from the first record on.

@@ -8,6 +8,7 @@ use Rattle.std.specs.Prelude.{Result, Err, Ok}
 use Rattle.types.specs.declared.Outcome.{Outcome}
 use Rattle.types.specs.declared.Facade.{Facade}
 use Rattle.types.specs.declared.Refusal.{Refusal}
+use Rattle.types.specs.declared.Refused.{Refused}
 use Rattle.rules.specs.Answers.{Answer, answer_of}
 use Rattle.rules.specs.Steps.{step}
 use Rattle.rules.proofs.Ranges.{step_sound}
@@ -60,7 +61,7 @@ module _ {s : List ℕ} {x r : Progress} {z m : Page} {left : ℕ} (g : Going s 
     runs = rw u at g.run
 
     -- no record is found, and the lines that end the run have room
-    module _ {y : Refusal} (q : Err y ≡ result_of (record_at s r.place)) where
+    module _ {y : Refused ℕ} (q : Err y ≡ result_of (record_at s r.place)) where
       are_last : lines_from (suc n) r.facade s r.place r.number ≡ last_lines r.facade s r.place r.number
       are_last = ends_with n r.facade s r.place r.number (record_at s r.place) refl (none_at s r.place q).1
 

@@ -368,6 +368,21 @@ impl From<Refusal> for u32 {
     }
 }
 
+// A refusal, and what is answered beside it all the same, as the fresh facade of a configuration out of range.
+#[derive(Clone, Copy)]
+pub struct Refused<T> {
+    pub refusal: Refusal,
+    pub beside: T,
+}
+
+impl<T: Copy> From<Refused<T>> for Refusal {
+    ghost from_gives = { λ x n. n ≡ x.refusal };
+
+    fn from(x: Refused<T>) -> Refusal {
+        x.refusal
+    }
+}
+
 // What a party, or what a server keeps for one address, is after something happened, the outcome, and what is sent. A server that is
 // changed in place is no part of it: then `after` is `()`.
 #[derive(Clone, Copy)]

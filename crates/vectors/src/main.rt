@@ -2,12 +2,16 @@
 // for each its length, at most 65,537, and its bytes; numbers are four bytes, big-endian.
 #![tactic(auto)]
 
+ghost use Rattle.std.specs.Prelude.{◌≤◌, length, IfOk};
+
 use input::{next_number, read_full};
 use std::io;
 use std::io::{Read, Write};
 
 // The next script, read into the buffer as far as there is room.
-fn read_script<'a>(from: &mut impl Read, buf: &'a mut [u8]) -> io::Result<&'a [u8]> {
+fn read_script<'a>(from: &mut impl Read, buf: &'a mut [u8]) -> io::Result<&'a [u8]>
+    ensures { IfOk result (λ s. length s.now ≤ length buf.old) }
+{
     let room = buf.len();
     let n = (next_number(from, 0)? as usize).min(room);
     let read = read_full(from, &mut buf[..n])?;
